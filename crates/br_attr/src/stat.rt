@@ -19,7 +19,7 @@ const NEEDED: usize = 13;
 
 /// The numbers of a file on the system that was backed up: the fields of `stat`, and for a hard
 /// link the index of the file that it names.
-#[derive(Clone, Copy, Debug, PartialEq, Eq)]
+#[derive(Clone, Copy, Debug, PartialEq)]
 pub struct Stat {
     dev: i64,
     ino: i64,

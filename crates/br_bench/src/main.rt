@@ -23,10 +23,9 @@ use crate::committing::measure_commits;
 use crate::fault::BenchFault;
 use crate::making::{CLIENT, FILESET, Size, history_of};
 use crate::words::{Stage, Work, read_words};
-use br_choose::choose;
 use br_history::History;
 use br_mark::{Answer, Command, Console};
-use br_plan::{Plan, Request};
+use br_plan::{JobSelection, Plan, Request};
 use br_tree::Tree;
 use br_types::Name;
 use br_view::View;
@@ -94,14 +93,13 @@ fn mark_all(rt: &HostRuntime, console: &mut Console<'_>) -> Result<(), BenchFaul
 /// Plans the restore of the marks in the tree of the chosen jobs.
 fn plan_marked(
     rt: &HostRuntime,
-    history: &History,
-    request: &Request,
+    asked: &JobSelection<'_>,
     tree: &Tree<'_>,
 ) -> Result<(), BenchFault>
-    requires { IsViewOfChosen history.now request.now tree.now.view }
+    requires { IsViewOfChosen asked.now.history asked.now.request tree.now.view }
 {
     let start = rt.process_cpu_time()?;
-    let plan = Plan::for_marked(rt.alloc(), history, request, tree)?;
+    let plan = Plan::for_marked(rt.alloc(), asked, tree)?;
     report(rt, "plan", start)?;
     let groups = plan.bootstrap().groups().len();
     let names = plan.names().iter().count();
@@ -113,11 +111,10 @@ fn plan_marked(
 fn run_dialogue(
     rt: &HostRuntime,
     stage: Stage,
-    history: &History,
-    request: &Request,
+    asked: &JobSelection<'_>,
     console: &mut Console<'_>,
 ) -> Result<(), BenchFault>
-    requires { IsViewOfChosen history.now request.now console.old.view }
+    requires { IsViewOfChosen asked.now.history asked.now.request console.old.view }
 {
     list(rt, console, "/")?;
     list(rt, console, "/home")?;
@@ -129,18 +126,17 @@ fn run_dialogue(
     if stage < Stage::Plan {
         return Ok(());
     }
-    plan_marked(rt, history, request, console.tree())
+    plan_marked(rt, asked, console.tree())
 }
 
 /// Builds the tree of the view of the chosen jobs, and continues from it, up to the stage.
 fn walk<'h>(
     rt: &HostRuntime,
     stage: Stage,
-    history: &'h History,
-    request: &Request,
+    asked: &JobSelection<'h>,
     view: View<'h>,
 ) -> Result<(), BenchFault>
-    requires { IsViewOfChosen history.now request.now view }
+    requires { IsViewOfChosen asked.now.history asked.now.request view }
 {
     let start = rt.process_cpu_time()?;
     let tree = Tree::build(rt.alloc(), view)?;
@@ -151,25 +147,15 @@ fn walk<'h>(
         return Ok(());
     }
     let mut console = Console::new(rt.alloc(), tree)?;
-    run_dialogue(rt, stage, history, request, &mut console)
+    run_dialogue(rt, stage, asked, &mut console)
 }
 
 /// Builds the view of the jobs that are chosen from a history.
-fn view_of<'h>(
-    rt: &HostRuntime,
-    history: &'h History,
-    request: &Request,
-) -> Result<View<'h>, BenchFault>
-    ensures { IfOk result (λ view. IsViewOfChosen history.now request.now view) }
+fn view_of<'h>(rt: &HostRuntime, asked: &JobSelection<'h>) -> Result<View<'h>, BenchFault>
+    ensures { IfOk result (λ view. IsViewOfChosen asked.now.history asked.now.request view) }
 {
     let alloc = rt.alloc();
-    let jobs = choose(
-        alloc,
-        history,
-        &request.client,
-        &request.fileset,
-        request.moment,
-    )?;
+    let jobs = asked.jobs(alloc)?;
     let start = rt.process_cpu_time()?;
     let view = View::build(alloc, &jobs)?;
     report(rt, "view", start)?;
@@ -192,11 +178,12 @@ fn select(rt: &HostRuntime, stage: Stage, history: &History) -> Result<(), Bench
         return Ok(());
     }
     let request = request_of(rt.alloc()).ok_or(AllocError)?;
-    let view = view_of(rt, history, &request)?;
+    let asked = JobSelection::new(rt.alloc(), history, &request);
+    let view = view_of(rt, &asked)?;
     if stage < Stage::Tree {
         return Ok(());
     }
-    walk(rt, stage, history, &request, view)
+    walk(rt, stage, &asked, view)
 }
 
 /// Makes a history and runs the steps of a selection from it, up to the stage.

@@ -4,7 +4,7 @@ ghost use Rattle.br_block.specs.Fault.{fault_number};
 use thiserror::Error;
 
 /// Why bytes were refused as a block.
-#[derive(Clone, Copy, Debug, PartialEq, Eq, Error)]
+#[derive(Clone, Copy, Debug, Error)]
 pub enum BlockFault {
     #[error("not a block: bytes 12 to 15 of its header are neither BB01 nor BB02")]
     BadId,

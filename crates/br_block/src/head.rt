@@ -20,7 +20,7 @@ const MAX_SIZE: u32 = 4_194_304;
 
 /// The header of a block: CheckSum, BlockSize, BlockNumber and the letters of the level, four bytes
 /// each. After the letters `BB02` come VolSessionId and VolSessionTime, after `BB01` nothing.
-#[derive(Clone, Copy, Debug, PartialEq, Eq)]
+#[derive(Clone, Copy, Debug)]
 pub struct BlockHead {
     /// The checksum, which is not verified.
     pub checksum: u32,

@@ -6,13 +6,13 @@ use Rattle.std.specs.Str.Lines.{lines}
 use Rattle.br_model.specs.Answer.{◌>>=◌, refuse_if, refused_as, some_or}
 use Rattle.br_model.specs.Text.{is_empty}
 use Rattle.br_model.specs.Bootstrap.{Range, Group, with_ranges}
-use Rattle.br_model.specs.BootstrapText.{Keyword, NamesVolume, Asks, PassedOver, Unsupported, Statement, Nothing, OnVolume, Admits, LineFault, before_comment, change_last, has_closed_quotes, is_comma, is_equals, is_unsupported, keyword_of, needs_volume, read_assignment, read_bootstrap, read_items, read_line, read_lines, read_value, read_volume, trimmed, with_statement}
+use Rattle.br_model.specs.BootstrapText.{Keyword, NamesVolume, Asks, PassedOver, Unsupported, Statement, Nothing, OnVolume, Admits, LineFault, change_last, has_closed_quotes, is_comma, is_equals, is_unsupported, keyword_of, needs_volume, read_assignment, read_bootstrap, read_items, read_line, read_lines, read_value, read_volume, trimmed, with_statement}
 use Rattle.std.specs.List.{slice_split}
 use Rattle.br_model.proofs.AnswerLaws.{bind_ok, chosen, err_is_not_ok, ok_is, refuse_ok, refused_as_ok, some_or_ok}
-use Rattle.br_bsr.specs.Keyword.{criterion_named, is_among, passed_over, unsupported}
+use Rattle.br_bsr.specs.Keyword.{criterion_named, is_among, passed_over, unsupported, is_name_of}
 use Rattle.br_bsr.specs.declared.criterion.Criterion.{Criterion}
 use Rattle.br_bsr.proofs.KeywordLaws.{criterion_word, other_word, passed_word, volume_word}
-use Rattle.br_bsr.specs.Counts.{EachGroupHasOne, counts, is_name, stated, with_last, with_line, with_number, with_stated, with_value, with_word}
+use Rattle.br_bsr.specs.Counts.{EachGroupHasOne, counts, stated, with_last, with_line, with_number, with_stated, with_value}
 use Rattle.br_types.specs.DecimalField.{number_spelled}
 
 -- 1 if a group begins, else 0
@@ -49,12 +49,12 @@ number_length (Some n) cs = last_length n cs
 
 -- the text is an assignment to `Volume`
 abbrev opens : List ℕ → Bool
-opens text = list_any is_equals text && is_name (trimmed (before_first is_equals text)) (codes "volume")
+opens text = list_any is_equals text && is_name_of (trimmed (before_first is_equals text)) (codes "volume")
 
 stated_length : (text : List ℕ) (cs : List (Option ℕ)) → length (with_stated text cs) ≡ length cs + one_if (opens text)
 stated_length text cs =
-    go (list_any is_equals text) (is_name (trimmed (before_first is_equals text)) (codes "volume"))
-    (is_name (trimmed (before_first is_equals text)) (codes "count"))
+    go (list_any is_equals text) (is_name_of (trimmed (before_first is_equals text)) (codes "volume"))
+    (is_name_of (trimmed (before_first is_equals text)) (codes "count"))
   where
     value : List (Option ℕ)
     value = with_value (trimmed (after_first is_equals text)) cs
@@ -82,8 +82,8 @@ some_is x y e = cc
 none_is_not : {A : Type 0} (x : A) → ◌≡◌ {A = Option A} None (Some x) → ⊥
 none_is_not x e = absurd cc
 
-keyword_names : (word : List ℕ) (k : Keyword) → keyword_of word ≡ Some k → names_volume k ≡ is_name word (codes "volume")
-keyword_names word k e = by_volume (is_name word (codes "volume")) refl
+keyword_names : (word : List ℕ) (k : Keyword) → keyword_of word ≡ Some k → names_volume k ≡ is_name_of word (codes "volume")
+keyword_names word k e = by_volume (is_name_of word (codes "volume")) refl
   where
     is : (j : Keyword) → keyword_of word ≡ Some j → names_volume k ≡ names_volume j
     is j f = ap names_volume (some_is k j (sym e ∙ f))
@@ -92,15 +92,15 @@ keyword_names word k e = by_volume (is_name word (codes "volume")) refl
     by_other true f = is Unsupported f
     by_other false f = absurd (none_is_not k (sym f ∙ e))
 
-    by_passed : (p : Bool) → is_among passed_over word ≡ p → criterion_named word ≡ None → is_name word (codes "volume") ≡ false → names_volume k ≡ false
+    by_passed : (p : Bool) → is_among passed_over word ≡ p → criterion_named word ≡ None → is_name_of word (codes "volume") ≡ false → names_volume k ≡ false
     by_passed true f c v = is PassedOver (passed_word word v c f)
     by_passed false f c v = by_other (is_among unsupported word) (other_word word (is_among unsupported word) v c f refl)
 
-    by_criterion : (o : Option Criterion) → criterion_named word ≡ o → is_name word (codes "volume") ≡ false → names_volume k ≡ false
+    by_criterion : (o : Option Criterion) → criterion_named word ≡ o → is_name_of word (codes "volume") ≡ false → names_volume k ≡ false
     by_criterion (Some c) f v = is (Asks _) (criterion_word word c v f)
     by_criterion None f v = by_passed (is_among passed_over word) refl f v
 
-    by_volume : (b : Bool) → is_name word (codes "volume") ≡ b → names_volume k ≡ b
+    by_volume : (b : Bool) → is_name_of word (codes "volume") ≡ b → names_volume k ≡ b
     by_volume true v = is NamesVolume (volume_word word v)
     by_volume false v = by_criterion (criterion_named word) refl v
 
@@ -133,7 +133,7 @@ assignment_begins has_volume text s e =
     let f = refuse_ok (not (list_any is_equals text)) 33 (λ (u : Unit {0}). value b.0) s d.1 in
     value_begins b.0 (trimmed (after_first is_equals text)) s f.1
     ∙ keyword_names word b.0 (some_or_ok (keyword_of word) 31 b.0 b.1)
-    ∙ any_too (list_any is_equals text) (is_name word (codes "volume")) f.0
+    ∙ any_too (list_any is_equals text) (is_name_of word (codes "volume")) f.0
   where
     any_too : (any volume : Bool) → not any ≡ false → volume ≡ (any && volume)
     any_too true volume e = refl

@@ -9,6 +9,7 @@ use Rattle.br_model.specs.Bootstrap as model
 use Rattle.br_model.specs.BootstrapText.{is_comma, read_item, read_items}
 use Rattle.br_bsr.specs.Statement.{behind}
 use Rattle.br_bsr.proofs.ScanLaws.{any_is_place}
+use Rattle.std.proofs.lemmas.Bool.{or_parts}
 
 within : (n m : ℕ) → ltb n m ≡ true → n < m
 within n m e = grind (arith, nat_tests)
@@ -20,15 +21,11 @@ split_at_first p [] e = absurd cc
 split_at_first p (x ∷ xs) e =
     slice_split_first p (x ∷ xs) x (within (position_or_len p (x ∷ xs)) (length (x ∷ xs)) (sym (any_is_place p (x ∷ xs)) ∙ e))
 
-any_parts : (a b : Bool) → (a || b) ≡ false → (a ≡ false) × (b ≡ false)
-any_parts true b e = absurd cc
-any_parts false b e = (refl, e)
-
 -- one part, if no byte passes
 pub split_nowhere : {X : Type 0} (p : X → Bool) (xs : List X) → list_any p xs ≡ false → slice_split p xs ≡ xs ∷ []
 split_nowhere p [] e = refl
 split_nowhere p (x ∷ xs) e =
-    let parts = any_parts (p x) (list_any p xs) e in
+    let parts = or_parts (p x) (list_any p xs) e in
     let rest : slice_split p xs ≡ xs ∷ [] = split_nowhere p xs parts.1 in
     rw (parts.0, rest) refl
 

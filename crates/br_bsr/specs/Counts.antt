@@ -1,19 +1,15 @@
 -- The `Count` of each group of a bootstrap's text.
-use Rattle.std.specs.Prelude.{◌≡◌, ℕ, Bool, false, if◌then◌else◌, List, [], ◌∷◌, ◌++◌, length, fold, bytes_eq, codes, Option, Some, None, Ok}
+use Rattle.std.specs.Prelude.{◌≡◌, ℕ, false, if◌then◌else◌, List, [], ◌∷◌, ◌++◌, length, fold, codes, Option, Some, None, Ok}
 use Rattle.std.specs.List.{list_any, before_first, after_first}
-use Rattle.std.specs.Str.{str_to_ascii_lowercase}
 use Rattle.std.specs.Str.Lines.{lines}
 use Rattle.br_model.specs.Bootstrap.{Group}
 use Rattle.br_model.specs.BootstrapText.{before_comment, is_equals, read_bootstrap, trimmed}
 use Rattle.br_types.specs.DecimalField.{number_spelled}
+use Rattle.br_bsr.specs.Keyword.{is_name_of}
 
 -- the contents of a line: the text without its comment and the blanks at its ends
 abbrev pub stated : List ℕ → List ℕ
 stated text = trimmed (before_comment false text)
-
--- the word is this name, in letters of either case
-abbrev pub is_name : List ℕ → List ℕ → Bool
-is_name word name = bytes_eq (str_to_ascii_lowercase word) name
 
 -- the counts with this number for the last group
 abbrev pub with_last : ℕ → List (Option ℕ) → List (Option ℕ)
@@ -33,8 +29,8 @@ with_value value counts = with_number (number_spelled 18446744073709551615 value
 -- the counts after an assignment: `Volume` begins a group, which has none so far
 abbrev pub with_word : List ℕ → List ℕ → List (Option ℕ) → List (Option ℕ)
 with_word word value counts =
-    if is_name word (codes "volume") then counts ++ None ∷ []
-    else if is_name word (codes "count") then with_value value counts
+    if is_name_of word (codes "volume") then counts ++ None ∷ []
+    else if is_name_of word (codes "count") then with_value value counts
     else counts
 
 -- the counts after what a line states

@@ -1,8 +1,8 @@
 -- The numbers and lines of refused bootstraps.
 use Rattle.std.specs.Prelude.{ℕ, Option, Some, None, option_map}
 use Rattle.br_model.specs.BootstrapText.{LineFault}
-use Rattle.br_bsr.specs.declared.fault.Refusal.{Refusal}
-use Rattle.br_bsr.specs.declared.fault.Refusal.TheVariants as refusal
+use Rattle.br_bsr.specs.declared.fault.LineRefusal.{LineRefusal}
+use Rattle.br_bsr.specs.declared.fault.LineRefusal.TheVariants as refusal
 use Rattle.br_bsr.specs.declared.fault.BsrFault.{BsrFault}
 use Rattle.br_bsr.specs.declared.fault.BsrFault.TheVariants.{Memory, VolumeFirst, UnknownKeyword, UnsupportedKeyword, BadValue, TooLong}
 
@@ -34,7 +34,7 @@ cause (BadValue n) = Some (record { number = 33; line = n })
 cause (TooLong n) = Some (record { number = 34; line = n })
 
 -- the number of the refusal of a line: none if memory ran out
-abbrev pub refusal_cause : Refusal → Option ℕ
+abbrev pub refusal_cause : LineRefusal → Option ℕ
 refusal_cause refusal.Memory = None
 refusal_cause refusal.VolumeFirst = Some 30
 refusal_cause refusal.UnknownKeyword = Some 31
@@ -43,7 +43,7 @@ refusal_cause refusal.BadValue = Some 33
 refusal_cause refusal.TooLong = Some 34
 
 -- the number of the refusal of a line: 1 if memory ran out
-abbrev pub refusal_number : Refusal → ℕ
+abbrev pub refusal_number : LineRefusal → ℕ
 refusal_number refusal.Memory = 1
 refusal_number refusal.VolumeFirst = 30
 refusal_number refusal.UnknownKeyword = 31

@@ -1,21 +1,13 @@
-ghost use Rattle.std.specs.Prelude.{◌≡◌, bytes_eq, IfOk, OnOk};
-ghost use Rattle.std.specs.Str.{str_to_ascii_lowercase};
+ghost use Rattle.std.specs.Prelude.{◌≡◌, IfOk, OnOk};
 ghost use Rattle.br_bsr.specs.Counts as model;
-ghost use Rattle.br_bsr.specs.Counts.{counts, stated};
+ghost use Rattle.br_bsr.specs.Counts.{counts};
 
+use crate::keyword::is_word;
 use crate::scan::{cut, first_line, trimmed_of, without_comment};
 use br_types::read_number;
 use std::alloc::{AllocError, Global};
 
-/// Returns whether a word is this name, in letters of either case.
-fn is_word(word: &[u8], name: &[u8]) -> bool
-    requires { str_to_ascii_lowercase name.now ≡ name.now }
-    ensures { result ≡ bytes_eq (str_to_ascii_lowercase word.now) name.now }
-{
-    word.eq_ignore_ascii_case(name)
-}
-
-/// Sets the count of the last group to this number.
+/// Gives the last group this number.
 fn set_last(counts: &mut Vec<Option<u64>>, number: u64)
     ensures { counts.new.items ≡ model.with_last number counts.old.items }
 {

@@ -1,13 +1,13 @@
 ghost use Rattle.std.specs.Prelude.{◌≡◌};
 ghost use Rattle.br_bsr.specs.Fault.{fault_number, fault_line, cause, refusal_cause, at_line};
-ghost use Rattle.br_bsr.specs.declared.fault.Refusal.TheVariants.{Memory};
+ghost use Rattle.br_bsr.specs.declared.fault.LineRefusal.TheVariants.{Memory};
 ghost use Rattle.br_bsr.specs.declared.fault.BsrFault.TheVariants as fault;
 
 use std::alloc::{AllocError, AllocFailed};
 use thiserror::Error;
 
 /// Why a bootstrap was refused, with the number of the refused line, from 1.
-#[derive(Clone, Copy, Debug, PartialEq, Eq, Error)]
+#[derive(Clone, Copy, Debug, Error)]
 pub enum BsrFault {
     #[error("out of memory")]
     Memory,
@@ -65,7 +65,7 @@ impl From<AllocError> for BsrFault {
 
 /// Why a line was refused.
 #[derive(Clone, Copy)]
-pub enum Refusal {
+pub enum LineRefusal {
     Memory,
     VolumeFirst,
     UnknownKeyword,
@@ -74,26 +74,26 @@ pub enum Refusal {
     TooLong,
 }
 
-impl Refusal {
+impl LineRefusal {
     /// Returns the refusal of a text whose line with the number `line` has this refusal.
     pub fn at(self, line: u64) -> BsrFault
         ensures { cause result ≡ at_line line (refusal_cause self) }
     {
         match self {
-            Refusal::Memory => BsrFault::Memory,
-            Refusal::VolumeFirst => BsrFault::VolumeFirst { line },
-            Refusal::UnknownKeyword => BsrFault::UnknownKeyword { line },
-            Refusal::UnsupportedKeyword => BsrFault::UnsupportedKeyword { line },
-            Refusal::BadValue => BsrFault::BadValue { line },
-            Refusal::TooLong => BsrFault::TooLong { line },
+            LineRefusal::Memory => BsrFault::Memory,
+            LineRefusal::VolumeFirst => BsrFault::VolumeFirst { line },
+            LineRefusal::UnknownKeyword => BsrFault::UnknownKeyword { line },
+            LineRefusal::UnsupportedKeyword => BsrFault::UnsupportedKeyword { line },
+            LineRefusal::BadValue => BsrFault::BadValue { line },
+            LineRefusal::TooLong => BsrFault::TooLong { line },
         }
     }
 }
 
-impl<T: Drop> From<AllocFailed<T>> for Refusal {
+impl<T: Drop> From<AllocFailed<T>> for LineRefusal {
     ghost from_gives = { λ _ e. e ≡ Memory };
 
-    fn from(_e: AllocFailed<T>) -> Refusal {
-        Refusal::Memory
+    fn from(_e: AllocFailed<T>) -> LineRefusal {
+        LineRefusal::Memory
     }
 }

@@ -24,7 +24,7 @@ fn contains_any(ranges: &[Range], number: u64) -> bool
 }
 
 /// Returns whether a criterion with these ranges admits the number: without ranges it admits all.
-fn admits_number(ranges: &[Range], number: u64) -> bool
+pub fn admits_number(ranges: &[Range], number: u64) -> bool
     ensures { result ≡ admits ranges.now number }
 {
     ranges.is_empty() || contains_any(ranges, number)

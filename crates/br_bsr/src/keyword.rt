@@ -16,7 +16,7 @@ pub enum Keyword {
 }
 
 /// Returns whether a word is this name, in letters of either case.
-fn is_word(word: &[u8], name: &[u8]) -> bool
+pub(crate) fn is_word(word: &[u8], name: &[u8]) -> bool
     requires { str_to_ascii_lowercase name.now ≡ name.now }
     ensures { result ≡ bytes_eq (str_to_ascii_lowercase word.now) name.now }
 {

@@ -1,10 +1,12 @@
-ghost use Rattle.std.specs.Prelude.{◌≡◌};
+ghost use Rattle.std.specs.Prelude.{◌≡◌, IfOk, IsPermutation};
 ghost use Rattle.std.specs.Int.{is_in_range};
+ghost use Rattle.std.specs.List.Sorted.{IsNonDecreasingBy};
 
+use std::alloc::{AllocError, Global};
 use std::marker::Model;
 
 /// The numbers from `low` to `high`, inclusive.
-#[derive(Clone, Copy, Debug, PartialEq, Eq)]
+#[derive(Clone, Copy, Debug)]
 pub struct Range {
     pub low: u64,
     pub high: u64,
@@ -27,4 +29,14 @@ impl Range {
     {
         self.low <= number && number <= self.high
     }
+}
+
+/// Returns the ranges in order of their low ends.
+pub fn by_low(alloc: Global, ranges: &[Range]) -> Result<Vec<Range>, AllocError>
+    ensures rising { IfOk result (λ v. IsNonDecreasingBy (λ r. r.low) v.items) }
+    ensures same { IfOk result (λ v. IsPermutation ranges.now v.items) }
+{
+    let mut sorted = Vec::from_slice(alloc, ranges)?;
+    sorted.sort_by_key(|range| range.low)?;
+    Ok(sorted)
 }

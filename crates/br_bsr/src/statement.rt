@@ -7,10 +7,10 @@ ghost use Rattle.br_bsr.specs.Keyword.{keyword_view};
 ghost use Rattle.br_bsr.specs.Line.{has_quotes, statement_view, check_keyword};
 
 use crate::criterion::Criterion;
-use crate::fault::Refusal;
-use crate::item::ranges_of;
+use crate::fault::LineRefusal;
 use crate::keyword::Keyword;
 use crate::range::Range;
+use crate::range_text::ranges_of;
 use crate::scan::{are_quotes_closed, cut, trimmed_of, without_comment};
 use br_types::{NameFault, VolName};
 use std::alloc::Global;
@@ -28,13 +28,13 @@ pub enum Statement {
 }
 
 /// Makes a volume's name.
-fn named(alloc: Global, bytes: &[u8]) -> Result<VolName, Refusal>
+fn named(alloc: Global, bytes: &[u8]) -> Result<VolName, LineRefusal>
     ensures { Answers (λ name. name) refusal_cause result (refused_as (λ _. 33) (checked_volume_name bytes.now)) }
 {
     match VolName::new(alloc, bytes) {
         Ok(name) => Ok(name),
-        Err(NameFault::Memory) => Err(Refusal::Memory),
-        Err(NameFault::BadName | NameFault::BadPath) => Err(Refusal::BadValue),
+        Err(NameFault::Memory) => Err(LineRefusal::Memory),
+        Err(NameFault::BadName | NameFault::BadPath) => Err(LineRefusal::BadValue),
     }
 }
 
@@ -46,21 +46,21 @@ fn is_quoted(text: &[u8]) -> bool
 }
 
 /// Reads the name of a volume, in quotes or without a space.
-fn volume_of(alloc: Global, text: &[u8]) -> Result<VolName, Refusal>
+fn volume_of(alloc: Global, text: &[u8]) -> Result<VolName, LineRefusal>
     ensures { Answers (λ name. name) refusal_cause result (read_volume text.now) }
 {
     if is_quoted(text) {
         return named(alloc, &text[1..text.len() - 1]);
     }
     if text.contains(&b' ') {
-        return Err(Refusal::BadValue);
+        return Err(LineRefusal::BadValue);
     }
     named(alloc, text)
 }
 
 /// Reads the value of a keyword, as the statement of both.
 #[tactic(auto, unfolding(br_model::specs::BootstrapText::read_value))]
-fn value_of(alloc: Global, keyword: Keyword, text: &[u8]) -> Result<Statement, Refusal>
+fn value_of(alloc: Global, keyword: Keyword, text: &[u8]) -> Result<Statement, LineRefusal>
     ensures { Answers statement_view refusal_cause result (read_value (keyword_view keyword) text.now) }
 {
     match keyword {
@@ -73,33 +73,33 @@ fn value_of(alloc: Global, keyword: Keyword, text: &[u8]) -> Result<Statement, R
             if are_quotes_closed(text) {
                 Ok(Statement::Nothing)
             } else {
-                Err(Refusal::BadValue)
+                Err(LineRefusal::BadValue)
             }
         }
-        Keyword::Unsupported => Err(Refusal::UnsupportedKeyword),
+        Keyword::Unsupported => Err(LineRefusal::UnsupportedKeyword),
     }
 }
 
 /// Reads a keyword that is supported here: `has_volume` says whether a volume was named before.
 #[tactic(auto, unfolding(crate::specs::Line::check_keyword))]
-fn checked_keyword(has_volume: bool, word: &[u8]) -> Result<Keyword, Refusal>
+fn checked_keyword(has_volume: bool, word: &[u8]) -> Result<Keyword, LineRefusal>
     ensures { AnswersAlways keyword_view refusal_number result (check_keyword has_volume word.now) }
 {
     let Some(keyword) = Keyword::from_word(trimmed_of(word)) else {
-        return Err(Refusal::UnknownKeyword);
+        return Err(LineRefusal::UnknownKeyword);
     };
     if keyword.is_unsupported() {
-        return Err(Refusal::UnsupportedKeyword);
+        return Err(LineRefusal::UnsupportedKeyword);
     }
     if keyword.needs_volume() && !has_volume {
-        return Err(Refusal::VolumeFirst);
+        return Err(LineRefusal::VolumeFirst);
     }
     Ok(keyword)
 }
 
 /// Reads an assignment: `has_volume` says whether a volume was named before.
 #[tactic(auto, unfolding(br_model::specs::BootstrapText::read_assignment, crate::specs::Line::check_keyword))]
-fn assignment_of(alloc: Global, has_volume: bool, text: &[u8]) -> Result<Statement, Refusal>
+fn assignment_of(alloc: Global, has_volume: bool, text: &[u8]) -> Result<Statement, LineRefusal>
     ensures { Answers statement_view refusal_cause result (read_assignment has_volume text.now) }
 {
     match cut(text, b'=') {
@@ -109,18 +109,18 @@ fn assignment_of(alloc: Global, has_volume: bool, text: &[u8]) -> Result<Stateme
         }
         None => {
             checked_keyword(has_volume, text)?;
-            Err(Refusal::BadValue)
+            Err(LineRefusal::BadValue)
         }
     }
 }
 
 /// Reads a line: `has_volume` says whether a volume was named before.
 #[tactic(auto, unfolding(br_model::specs::BootstrapText::read_line))]
-pub fn statement_of(alloc: Global, has_volume: bool, line: &[u8]) -> Result<Statement, Refusal>
+pub fn statement_of(alloc: Global, has_volume: bool, line: &[u8]) -> Result<Statement, LineRefusal>
     ensures { Answers statement_view refusal_cause result (read_line has_volume line.now) }
 {
     if line.len() > MAX_LINE {
-        return Err(Refusal::TooLong);
+        return Err(LineRefusal::TooLong);
     }
     let stated = trimmed_of(without_comment(line));
     if stated.is_empty() {

@@ -11,7 +11,7 @@ use br_types::push_number;
 use std::alloc::{AllocError, Global};
 
 /// Appends one number, or two with a dash between them.
-fn push_range(text: &mut Vec<u8>, range: Range) -> Result<(), AllocError>
+pub fn push_range(text: &mut Vec<u8>, range: Range) -> Result<(), AllocError>
     ensures { OnOk result (text.new.items ≡ text.old.items ++ range_text range) }
 {
     push_number(text, range.low)?;

@@ -7,14 +7,14 @@ use Rattle.br_store.specs.Held.{name_at}
 use Rattle.br_catalog_migrate.specs.OldFiles.{IsOldFile, digest_of, lstat_of, moved_row, number_cells, numbers_of}
 use Rattle.br_catalog_migrate.specs.Sound.{AreMovedRows, IsMovedRow}
 use Rattle.br_catalog_migrate.specs.declared.old_files.OldFile.{OldFile}
-use Rattle.br_catalog_migrate.specs.declared.old_files.Numbers.{Numbers}
+use Rattle.br_catalog_migrate.specs.declared.old_files.FileNumbers.{FileNumbers}
 use Rattle.br_catalog_migrate.proofs.NameLaws.{map_push}
 
-abbrev moved_cells : Numbers → Value → Value → Value → Row
+abbrev moved_cells : FileNumbers → Value → Value → Value → Row
 moved_cells n name lstat digest = Int n.id ∷ Null ∷ Int (pos n.index) ∷ Int (pos n.job) ∷ Int n.path ∷ name ∷ lstat ∷ digest ∷ []
 
 -- the row of a file, with the name that its number has
-one_moved : (names : List Row) (row : Row) (n : Numbers) (name : Value) → numbers_of row ≡ number_cells n → name ≡ name_at names (Int n.name) → moved_row names row ≡ moved_cells n name (lstat_of row) (digest_of row)
+one_moved : (names : List Row) (row : Row) (n : FileNumbers) (name : Value) → numbers_of row ≡ number_cells n → name ≡ name_at names (Int n.name) → moved_row names row ≡ moved_cells n name (lstat_of row) (digest_of row)
 one_moved names row n name same named =
     let id : column row 0 ≡ Int n.id = ap (λ (l : Row). column l 0) same in
     let index : column row 2 ≡ Int (pos n.index) = ap (λ (l : Row). column l 1) same in
@@ -26,7 +26,7 @@ one_moved names row n name same named =
     ∙ ap (λ a. Int n.id ∷ Null ∷ Int (pos n.index) ∷ Int (pos n.job) ∷ Int n.path ∷ a ∷ lstat_of row ∷ digest_of row ∷ []) called
 
 -- what is kept of a file at a place makes the row at that place
-pub moved_at : (names rows : List Row) (numbers : List Numbers) (lstats digests : List Value) (at : ℕ) (n : Numbers) (name : Value)
+pub moved_at : (names rows : List Row) (numbers : List FileNumbers) (lstats digests : List Value) (at : ℕ) (n : FileNumbers) (name : Value)
     → map numbers_of rows ≡ map number_cells numbers → map lstat_of rows ≡ lstats → map digest_of rows ≡ digests → slice_get numbers at ≡ Some n → name ≡ name_at names (Int n.name)
     → slice_get (map (moved_row names) rows) at ≡ Some (moved_cells n name (column lstats at) (column digests at))
 moved_at names rows [] lstats digests at n name same stats sums has named = absurd cc

@@ -1,18 +1,12 @@
 -- What a fold leaves once the log is emptied.
-use Rattle.std.proofs.Common.{◌≡◌, ℕ, Bool, true, false, ◌&&◌, IsTrue, List, [], refl, sym, subst}
+use Rattle.std.proofs.Common.{◌≡◌, [], sym, subst}
 use Rattle.sqlite_disk.specs.declared.Disk.{Ghosts}
 use Rattle.sqlite_disk.specs.declared.Files.{Files}
-use Rattle.sqlite_wal.specs.Reads.{AreClean}
 use Rattle.sqlite_store.specs.declared.store.FileStore.{FileStore}
 use Rattle.sqlite_store.specs.FileStore.{view}
 use Rattle.sqlite.specs.Files.{HoldsDatabase}
-use Rattle.br_catalog_migrate.specs.RawFolded.{IsCopied, IsFolded, alone}
-
--- the log was clean if it is now, and the other file is the same
-pub clean_before : (now before db : Bool) → (IsTrue now → IsTrue before) → IsTrue (now && db) → IsTrue (before && db)
-clean_before true true db falls clean = clean
-clean_before true false db falls clean = let never : IsTrue false = falls refl in absurd cc
-clean_before false before db falls clean = absurd cc
+use Rattle.br_catalog_migrate.specs.RawFolded.{IsCopied, IsFolded}
+use Rattle.br_store.specs.Look.{alone}
 
 module _ {D : Type 0} {g : Ghosts D} (stays : (file : D) → g.may_leave file (g.seen file)) where
   pub with_empty_log : (it : FileStore D g) (old new : Files D) → IsCopied it old → g.seen new.log ≡ [] → new.db ≡ old.db → IsFolded it new

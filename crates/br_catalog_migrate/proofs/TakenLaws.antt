@@ -5,8 +5,8 @@ use Rattle.br_catalog_migrate.specs.declared.seen_indexes.Indexes.{Indexes}
 use Rattle.sqlite.specs.declared.types.Value.TheVariants.{Blob, Int}
 use Rattle.sqlite.specs.Order.{Row, column}
 use Rattle.br_model.specs.Job.{JobRow}
-use Rattle.br_catalog_migrate.specs.OldFiles.{IsOldFile, IsWholeFile, shown_cells, shown_row}
-use Rattle.br_store.specs.Held.{name_at}
+use Rattle.br_catalog_migrate.specs.OldFiles.{IsOldFile, IsWholeFile, shown_row}
+use Rattle.br_store.specs.Held.{name_at, file_cells}
 use Rattle.br_catalog_migrate.specs.SeenIndexes.{Saw}
 use Rattle.br_catalog_migrate.specs.WholeMigration.{AreWhole}
 use Rattle.br_catalog_migrate.specs.declared.old_files.OldFile.{OldFile}
@@ -15,7 +15,7 @@ use Rattle.br_catalog_migrate.proofs.NameLaws.{map_push}
 use Rattle.br_catalog_migrate.proofs.WholeLaws.{one_more}
 
 abbrev cells_of : OldFile → List ℕ → List ℕ → Row
-cells_of file front rest = shown_cells file.numbers.job file.numbers.index front rest file.lstat.now file.digest.now
+cells_of file front rest = file_cells file.numbers.job file.numbers.index front rest file.lstat.now file.digest.now
 
 shown_is : (paths names : List Row) (row : Row) (file : OldFile) (front rest : List ℕ) → IsOldFile file row → Blob front ≡ name_at paths (Int file.numbers.path) → Blob rest ≡ name_at names (Int file.numbers.name)
     → shown_row paths names row ≡ cells_of file front rest

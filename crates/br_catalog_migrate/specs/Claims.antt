@@ -17,7 +17,7 @@ use Rattle.br_catalog_migrate.specs.OldRead.{AreSorted, IsReadOld, jobs_in, span
 use Rattle.br_catalog_migrate.specs.Renewed.{HasFiles}
 use Rattle.br_catalog_migrate.specs.Sound.{AreMovedRows}
 use Rattle.br_catalog_migrate.specs.WholeMigration.{AreWhole, FormFiles}
-use Rattle.br_catalog_migrate.specs.declared.old_files.Files.{Files}
+use Rattle.br_catalog_migrate.specs.declared.old_files.OldFiles.{OldFiles}
 use Rattle.br_catalog_migrate.specs.declared.migrating.Old.{Old}
 use Rattle.br_catalog_migrate.specs.declared.old_names.NameTable.{NameTable}
 use Rattle.br_catalog_migrate.specs.declared.seen_indexes.Indexes.{Indexes}
@@ -25,7 +25,7 @@ use Rattle.br_catalog_migrate.specs.declared.seen_indexes.Indexes.{Indexes}
 -- ---- files
 
 -- this is the row of version 2 of the file at this place
-abbrev pub IsMovedAt : Files → NameTable → ℕ → Row → Type 0
+abbrev pub IsMovedAt : OldFiles → NameTable → ℕ → Row → Type 0
 IsMovedAt files names at row =
     (rows ns : List Row) → AreFiles files rows → AreNames names ns → IsTable ns → slice_get (map (moved_row ns) rows) at ≡ Some row
 
@@ -46,7 +46,7 @@ CanBelong jobs paths names trees =
     → FormFiles (map (λ (j : JobRows). j.row) jobs) (map (shown_row ps ns) (trees file_tree))
 
 -- the rows of version 2 were put into the table of files, which had none
-abbrev pub PutsFiles : Files → NameTable → View → View → Type 0
+abbrev pub PutsFiles : OldFiles → NameTable → View → View → Type 0
 PutsFiles files names old new =
     (rows ns : List Row) → AreFiles files rows → AreNames names ns → IsTable ns → IsTable rows
     → old.trees file_tree ≡ [] → HasFiles old new (map (moved_row ns) rows)

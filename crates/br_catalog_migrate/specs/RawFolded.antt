@@ -9,6 +9,7 @@ use Rattle.sqlite_store.specs.declared.store.FileStore.{FileStore}
 use Rattle.sqlite_store.specs.FileStore.{view}
 use Rattle.sqlite.specs.Closing.{HoldsAlone}
 use Rattle.sqlite.specs.Files.{HoldsDatabase, image_of}
+use Rattle.br_store.specs.Look.{alone}
 
 -- the last commit is in the database file, as it reads now and after a crash
 pub record IsCopied {D : Type 0} {g : Ghosts D} (it : FileStore D g) (files : Files D) : Type 0 where
@@ -17,12 +18,7 @@ pub record IsCopied {D : Type 0} {g : Ghosts D} (it : FileStore D g) (files : Fi
   pub seen : HoldsAlone (image_of g files) (view it).committed
   pub left : (image : Image) → outcomes g files.log files.db image → HoldsAlone image (view it).committed
 
--- a database file without a log
-abbrev pub alone : List ℕ → Image
-alone bytes = record { log = []; db = bytes }
-
--- the database file alone holds what was committed, as it reads now and after any crash, and the
--- log is empty
+-- the database file alone holds what was committed, as it reads now and whatever a crash leaves of it, and the log is empty
 pub record IsFolded {D : Type 0} {g : Ghosts D} (it : FileStore D g) (files : Files D) : Type 0 where
   pub emptied : g.seen files.log ≡ []
   pub seen : ∥ HoldsDatabase (alone (g.seen files.db)) (view it).committed ∥₁

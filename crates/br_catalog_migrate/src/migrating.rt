@@ -9,7 +9,7 @@ ghost use Rattle.br_catalog_migrate.specs.OldRead.{IsReadOld};
 ghost use Rattle.br_catalog_migrate.specs.MigrationSteps.{CommitsNothing, KeepsLast, OnCleanStore, Reads};
 
 use crate::new_tables::{put_files, put_version, replace_tables};
-use crate::old_files::{Files, read_files};
+use crate::old_files::{OldFiles, read_files};
 use crate::old_history::load_jobs;
 use crate::old_names::{NameTable, read_names};
 use crate::old_trees::{NAME, PATH};
@@ -25,7 +25,7 @@ use std::alloc::Global;
 pub(crate) struct Old {
     version: i64,
     names: NameTable,
-    files: Files,
+    files: OldFiles,
     jobs: u64,
 }
 

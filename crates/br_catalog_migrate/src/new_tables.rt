@@ -12,7 +12,7 @@ ghost use Rattle.br_catalog_migrate.specs.OldTrees.{version_tree};
 ghost use Rattle.br_catalog_migrate.specs.Renewed.{MakesFile, Replaces};
 ghost use Rattle.br_catalog_migrate.specs.MigrationSteps.{CommitsNothing, OnCleanStore};
 
-use crate::old_files::Files;
+use crate::old_files::OldFiles;
 use crate::old_names::NameTable;
 use crate::old_trees::{FILE, NAME, NAME_INDEX, VERSION};
 use crate::old_version::version_row;
@@ -114,7 +114,7 @@ pub(crate) fn replace_tables<S: Alter>(alloc: Global, store: &mut S) -> Result<(
 pub(crate) fn put_files<S: Store>(
     alloc: Global,
     store: &mut S,
-    files: &Files,
+    files: &OldFiles,
     names: &NameTable,
 ) -> Result<(), StoreFault>
     ensures put { OnCleanStore S.Store store.old store.new (λ old new. OnOk result (PutsFiles files.now names.now old new)) }

@@ -37,7 +37,7 @@ const MAX_INDEX: u32 = 2_147_483_647;
 
 /// The numbers of a row of File: its own, the index, and those of the job, the path and the name.
 #[derive(Clone, Copy)]
-pub(crate) struct Numbers {
+pub(crate) struct FileNumbers {
     pub(crate) id: i64,
     pub(crate) index: u32,
     pub(crate) job: u32,
@@ -48,7 +48,7 @@ pub(crate) struct Numbers {
 /// A row of File in version 1.
 #[derive(Clone, Copy)]
 pub(crate) struct OldFile<'a> {
-    numbers: Numbers,
+    numbers: FileNumbers,
     lstat: &'a [u8],
     digest: &'a [u8],
 }
@@ -84,7 +84,7 @@ fn text_at(row: &Row, at: usize) -> Option<&[u8]>
 fn old_file(row: &Row) -> Option<OldFile<'_>>
     ensures { IfSome result (λ file. IsOldFile file row.now) }
 {
-    let numbers = Numbers {
+    let numbers = FileNumbers {
         id: int_at(row, 0)?,
         index: small_at(row, 2)?,
         job: small_at(row, 3)?,
@@ -149,17 +149,17 @@ fn check_file(
 
 /// The rows of File, in order of FileId: their numbers, and two texts of each.
 #[derive(Drop)]
-pub(crate) struct Files {
-    numbers: Vec<Numbers>,
+pub(crate) struct OldFiles {
+    numbers: Vec<FileNumbers>,
     lstats: Row,
     digests: Row,
 }
 
-impl Files {
-    fn new(alloc: Global) -> Files
+impl OldFiles {
+    fn new(alloc: Global) -> OldFiles
         ensures { AreFiles result [] }
     {
-        Files {
+        OldFiles {
             numbers: Vec::new(alloc),
             lstats: Row::new(alloc),
             digests: Row::new(alloc),
@@ -214,19 +214,19 @@ impl Files {
 
 /// The rows of File while they are read.
 #[derive(Drop)]
-struct Reading {
-    files: Files,
+struct OldFilesReading {
+    files: OldFiles,
     seen: BTreeMap<u32, Indexes>,
     buffer: Vec<u8>,
 }
 
-impl Reading {
-    fn new(alloc: Global, jobs: &[JobRows]) -> Result<Reading, StoreFault>
+impl OldFilesReading {
+    fn new(alloc: Global, jobs: &[JobRows]) -> Result<OldFilesReading, StoreFault>
         ensures files { IfOk result (λ reading. AreFiles reading.files []) }
         ensures whole { IfOk result (λ reading. AreWhole (map (λ (j : Job). j.row) jobs.now) reading.seen []) }
     {
-        Ok(Reading {
-            files: Files::new(alloc),
+        Ok(OldFilesReading {
+            files: OldFiles::new(alloc),
             seen: no_indexes(alloc, jobs)?,
             buffer: Vec::new(alloc),
         })
@@ -263,14 +263,14 @@ pub(crate) fn read_files<S: Store>(
     jobs: &[JobRows],
     paths: &NameTable,
     names: &NameTable,
-) -> Result<Files, StoreFault>
+) -> Result<OldFiles, StoreFault>
     ensures files { OnCleanStore S.Store store.old store.new (λ old new. IfOk result (λ files. AreFiles files (old.trees file_tree))) }
     ensures moved { OnCleanStore S.Store store.old store.new (λ old new. OnOk result (CanMove names.now old.trees)) }
     ensures whole { OnCleanStore S.Store store.old store.new (λ old new. OnOk result (CanBelong jobs.now paths.now names.now old.trees)) }
     ensures reads { OnCleanStore S.Store store.old store.new (λ old new. OnOk result (Reads old new)) }
     ensures kept { CommitsNothing S.Store store.old store.new }
 {
-    let mut reading = Reading::new(alloc, jobs)?;
+    let mut reading = OldFilesReading::new(alloc, jobs)?;
     let mut row = Row::new(alloc);
     start(store, FILE, &row)?;
     'rows: for _ in 0..u64::MAX {

@@ -1,11 +1,12 @@
 //! Ends the use of a store.
 
-ghost use Rattle.std.specs.Prelude.{◌≡◌, [], IfOk, IsTrue};
+ghost use Rattle.std.specs.Prelude.{IfOk, IsTrue};
 ghost use Rattle.sqlite_store.specs.FileStore.{recovers, view};
 ghost use Rattle.sqlite.specs.Held.{AreDatabases};
 ghost use Rattle.br_catalog_migrate.specs.RawFolded.{IsCopied, IsFolded};
 ghost use Rattle.br_catalog_migrate.specs.RawPremises.{HaveKept};
 
+use br_store::emptied;
 use sqlite::{Error, ErrorCode, FileStore, Files};
 use sqlite_disk::Disk;
 use sqlite_trees::error::StoreError;
@@ -37,22 +38,8 @@ fn copied<D: Disk + Drop>(store: FileStore<D>) -> Result<Files<D>, Error>
     }
 }
 
-/// Empties the log.
-fn emptied<D: Disk + Drop>(files: Files<D>) -> Result<Files<D>, Error>
-    requires usable { IsTrue (D.Disk.is_usable files.log) }
-    ensures log { IfOk result (λ left. D.Disk.seen left.log ≡ []) }
-    ensures clean { IfOk result (λ left. IsTrue (D.Disk.is_clean left.log) → IsTrue (D.Disk.is_clean files.log)) }
-    ensures db { IfOk result (λ left. left.db ≡ files.db) }
-{
-    let Files { mut log, db } = files;
-    match log.set_len(0) {
-        Ok(()) => Ok(Files { log, db }),
-        Err(_) => Err(Error::SqliteFailure(ErrorCode::SystemIoFailure)),
-    }
-}
-
-/// Copies all that was committed into the database file, and empties the log. Returns both files:
-/// while they are held, no other program opens them. What is not committed is lost. If each
+/// Puts all that was committed into the database file, and empties the log. Returns both files:
+/// while they are there, no other program opens them. What is not committed is lost. If each
 /// database that a crash could leave is sound, the database file alone holds what was committed
 /// (`folded`).
 ///
@@ -66,6 +53,8 @@ pub fn fold<D: Disk + Drop>(store: FileStore<D>) -> Result<Files<D>, Error>
         HaveKept D.Disk files → IsTrue (view store).is_numbered → AreDatabases (recovers store) → IsFolded store files) }
 {
     let files = copied(store)?;
-    let left = emptied(files)?;
-    Ok(left)
+    match emptied(files) {
+        Ok(left) => Ok(left),
+        Err(_) => Err(Error::SqliteFailure(ErrorCode::SystemIoFailure)),
+    }
 }

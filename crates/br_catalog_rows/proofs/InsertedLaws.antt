@@ -3,7 +3,7 @@ use Rattle.std.proofs.Common.{◌≡◌, ℕ, ◌<◌, ◌+◌, ◌^◌, Bool, t
 use Rattle.std.specs.List.{AllByRecursion, list_all, list_any, enumerate_from}
 use Rattle.std.specs.Ordering.{match_ordering}
 use Rattle.std.specs.declared.cmp.Ordering.TheVariants.{Less, Equal, Greater}
-use Rattle.std.proofs.lemmas.Bool.{and_from, and_parts, ltb-false, leb-false}
+use Rattle.std.proofs.lemmas.Bool.{and_from, and_parts, ltb-false, leb-false, or_parts, not-true}
 use Rattle.std.proofs.lemmas.Bool.Decides.{Decides-eqb}
 use Rattle.std.proofs.lemmas.List.Elements.{filter-append}
 use Rattle.std.proofs.lemmas.List.Folds.{list_all-append}
@@ -21,6 +21,7 @@ use Rattle.br_catalog_rows.specs.Inserted.{rows_of, put_job, by_id, IsSpan, IsFi
 use Rattle.br_catalog_rows.proofs.ReadLaws.{small_ok, id_fits, job_ok, span_ok, file_ok}
 use Rattle.br_model.proofs.ListLaws.{none_pass}
 use Rattle.std.proofs.lemmas.List.{append-nil}
+use Rattle.br_catalog_rows.proofs.LoadLaws.{same_either}
 
 -- ---- rows written are read
 
@@ -52,10 +53,6 @@ numbered_stay n (s ∷ t ∷ ts) h =
 
 -- ---- jobs in order
 
-neither : (a b : Bool) → (a || b) ≡ false → (a ≡ false) × (b ≡ false)
-neither true b e = absurd cc
-neither false b e = (refl, e)
-
 -- whether one of the jobs has this number
 abbrev has_id : ℕ → List JobRows → Bool
 has_id id jobs = list_any (λ (k : JobRows). k.row.id == id) jobs
@@ -73,7 +70,7 @@ put_is : (j : JobRows) (jobs : List JobRows) → has_id j.row.id jobs ≡ false 
 unfolding put_job
 put_is j [] none = refl
 put_is j (k ∷ ks) none =
-    let parts = neither (k.row.id == j.row.id) (has_id j.row.id ks) none in
+    let parts = or_parts (k.row.id == j.row.id) (has_id j.row.id ks) none in
     rw (value_cmp-Int (pos k.row.id) (pos j.row.id)) (go (nat_lt k.row.id j.row.id) (nat_lt j.row.id k.row.id) refl refl parts.0 (put_is j ks parts.1))
   where
     go : (a b : Bool) → nat_lt k.row.id j.row.id ≡ a → nat_lt j.row.id k.row.id ≡ b → (k.row.id == j.row.id) ≡ false → put_row (row_of j) (map row_of ks) ≡ map row_of (put_job j ks)
@@ -119,15 +116,6 @@ any_by_id p (j ∷ jobs) = put_any p j (by_id jobs) ∙ ap (λ b. p j || b) (any
 
 -- ---- no two of one number or one session
 
-same_either : (m n : ℕ) → (m == n) ≡ (n == m)
-same_either m n = go (m == n) refl (n == m) refl
-  where
-    go : (a : Bool) → (m == n) ≡ a → (b : Bool) → (n == m) ≡ b → a ≡ b
-    go true e true f = refl
-    go false e false f = refl
-    go true e false f = absurd (let x = sym f ∙ (Decides-eqb n m).1 (sym ((Decides-eqb m n).0 e)) in cc)
-    go false e true f = absurd (let x = sym e ∙ (Decides-eqb m n).1 (sym ((Decides-eqb n m).0 f)) in cc)
-
 clash_either : (j k : JobRows) → clash j k ≡ clash k j
 clash_either j k = λ i.
     same_either j.row.id k.row.id i || (same_either j.row.session.id k.row.session.id i && same_either j.row.session.time k.row.session.time i)
@@ -139,7 +127,7 @@ put_apart : (j : JobRows) (jobs : List JobRows) → list_any (clash j) jobs ≡ 
 unfolding put_job no_pair
 put_apart j [] none apart = refl
 put_apart j (k ∷ ks) none apart =
-    let parts = neither (clash j k) (list_any (clash j) ks) none in
+    let parts = or_parts (clash j k) (list_any (clash j) ks) none in
     let rest = and_parts (not (list_any (clash k) ks)) (no_pair clash ks) apart in
     go (nat_lt k.row.id j.row.id) (put_apart j ks parts.1 rest.1) (put_any (clash k) j ks ∙ ap (λ b. b || list_any (clash k) ks) (clash_either k j ∙ parts.0)) rest.0
   where
@@ -180,13 +168,9 @@ Fits k = k.row.id < 2 ^ 32
 free_id : (j : JobRows) (jobs : List JobRows) → list_any (clash j) jobs ≡ false → has_id j.row.id jobs ≡ false
 free_id j [] none = refl
 free_id j (k ∷ ks) none =
-    let parts = neither (clash j k) (list_any (clash j) ks) none in
-    let one = neither (j.row.id == k.row.id) (same_session j.row.session k.row.session) parts.0 in
+    let parts = or_parts (clash j k) (list_any (clash j) ks) none in
+    let one = or_parts (j.row.id == k.row.id) (same_session j.row.session k.row.session) parts.0 in
     ap (λ b. b || has_id j.row.id ks) (same_either k.row.id j.row.id ∙ one.0) ∙ free_id j ks parts.1
-
-not_true : (b : Bool) → not b ≡ true → b ≡ false
-not_true true e = absurd cc
-not_true false e = refl
 
 module _ {X : Type 0} (write : ℕ → X → Row) (part : JobRows → List X) (shows : (id : ℕ) (x : X) → column (write id x) 0 ≡ Int (pos id)) where
   test_is : (q id : ℕ) (x : X) → id < 2 ^ 32 → is_of q (write id x) ≡ (q == id)
@@ -210,7 +194,7 @@ module _ {X : Type 0} (write : ℕ → X → Row) (part : JobRows → List X) (s
   unfolding gathered
   no_rows_of q [] none fit = refl
   no_rows_of q (j ∷ jobs) none fit =
-      let parts = neither (j.row.id == q) (has_id q jobs) none in
+      let parts = or_parts (j.row.id == q) (has_id q jobs) none in
       filter-append (is_of q) (gathered write part jobs) (map (write j.row.id) (part j))
       ∙ ap₂ ◌++◌ (no_rows_of q jobs parts.1 fit.1) (own q j.row.id fit.0 (part j) ∙ ap (λ b. cond b (map (write j.row.id) (part j)) []) (same_either q j.row.id ∙ parts.0))
 
@@ -221,7 +205,7 @@ module _ {X : Type 0} (write : ℕ → X → Row) (part : JobRows → List X) (s
   each [] apart fit = tt
   each (j ∷ jobs) apart fit =
       let parts = and_parts (not (list_any (clash j) jobs)) (no_pair clash jobs) apart in
-      let free = free_id j jobs (not_true (list_any (clash j) jobs) parts.0) in
+      let free = free_id j jobs (not-true (list_any (clash j) jobs) parts.0) in
       let split = λ (q : ℕ). filter-append (is_of q) (gathered write part jobs) (map (write j.row.id) (part j)) in (
         split j.row.id
             ∙ ap₂ ◌++◌ (no_rows_of j.row.id jobs free fit.1)
@@ -294,7 +278,7 @@ unfolding rows_of by_id no_pair
 jobs_are [] apart = refl
 jobs_are (j ∷ jobs) apart =
     let parts = and_parts (not (list_any (clash j) jobs)) (no_pair clash jobs) apart in
-    let free = free_id j jobs (not_true (list_any (clash j) jobs) parts.0) in
+    let free = free_id j jobs (not-true (list_any (clash j) jobs) parts.0) in
     ap (put_row (row_of j)) (jobs_are jobs parts.1) ∙ put_is j (by_id jobs) (any_by_id (λ (k : JobRows). k.row.id == j.row.id) jobs ∙ free)
 
 spans_are : (jobs : List JobRows) → (rows_of jobs).spans ≡ gathered span_row (λ (k : JobRows). k.spans) jobs

@@ -191,8 +191,8 @@ apart_fails rows.BadRow h rest j is = rw (behind_a_clash h rest j (refused_clash
 
 -- ---- rows dealt out
 
-turned : (m n : ℕ) → (m == n) ≡ (n == m)
-turned m n = go (m == n) refl (n == m) refl
+pub same_either : (m n : ℕ) → (m == n) ≡ (n == m)
+same_either m n = go (m == n) refl (n == m) refl
   where
     go : (a : Bool) → (m == n) ≡ a → (b : Bool) → (n == m) ≡ b → a ≡ b
     go true e true f = refl
@@ -202,7 +202,7 @@ turned m n = go (m == n) refl (n == m) refl
 
 -- a row with a number is of the job with this number
 number_is : (row : Row) (n : ℕ) → small (column row 0) ≡ Ok n → (q : ℕ) → is_of q row ≡ (n == q)
-number_is row n is q = ap (is_read q) is ∙ turned q n
+number_is row n is q = ap (is_read q) is ∙ same_either q n
 
 -- a row is dealt out
 pub dealt_more : (rows : List Row) (i n q : ℕ) (row : Row) → i < length rows → row ≡ get_or rows i row → small (column row 0) ≡ Ok n

@@ -1,7 +1,7 @@
 -- The blocks of a volume, one after the other.
 use Rattle.std.proofs.Common.{◌≡◌, ◌∙◌, ℕ, zero, suc, ◌+◌, ◌<◌, ◌≤◌, length, take, drop, List, [], ◌∷◌, ◌++◌, flat_map, Option, Some, None, Bool, true, false, if◌then◌else◌, Result, Ok, Err, refl, sym, ap, arith, length-drop}
 use Rattle.std.specs.Prelude.{nat_lt, ◌||◌, ◌&&◌}
-use Rattle.std.proofs.lemmas.Bool.{le-ltb, lt-ltb}
+use Rattle.std.proofs.lemmas.Bool.{le-ltb, lt-ltb, or_right}
 use Rattle.std.proofs.lemmas.List.{length-take, nil_from_length}
 use Rattle.std.proofs.lemmas.Option.{same_Some}
 use Rattle.br_model.specs.Answer.{◌>>=◌, refuse_if, refused_as}
@@ -70,10 +70,6 @@ bad_head : (gs : List (ℕ × Group)) (bytes : List ℕ) (a number : ℕ) → en
 bad_head gs bytes a number goes_on read = next_is gs bytes a goes_on (Err number) read
 
 -- where a walk ends
-or_right : (a b : Bool) → b ≡ true → (a || b) ≡ true
-or_right true b e = refl
-or_right false b e = e
-
 none_above : (gs : List (ℕ × Group)) (bytes : List ℕ) (a : ℕ) → is_above (bound_of (just_groups gs)) a ≡ true → block_at gs bytes a ≡ Ok None
 none_above gs bytes a above = none_here gs bytes a (or_right (is_empty (drop a bytes)) (is_above (bound_of (just_groups gs)) a) above)
 

@@ -16,7 +16,7 @@ pub checked_over : {D : Type 0} (shows : D → Option (List Volume)) (failures :
     (before text : List ℕ) (checked : Checked) → ps ≡ pieces_of groups → qs ≡ pieces_of groups → before ≡ [] → OnlyGrows (shows first) (shows second)
     → OnlyGrows (shows second) (shows last) → failures first ≤ failures second → AreSearched (shows first) (shows second) ps results
     → AppendsLabels (shows second) (shows last) (failures second) (failures last) qs before text → IsChecked groups counts budget results text checked
-    → ChecksOver shows failures first last groups counts budget checked
+    → ChecksOver (record { earlier = shows first; later = shows last; failures = failures first; failed = failures last }) groups counts budget checked
 checked_over shows failures first second last groups counts budget ps qs results before text checked ps_are qs_are none grew grows fewer searched told done = (
   results,
   told.0,

@@ -39,7 +39,7 @@ abbrev front_shown : Option (List ℕ) → Result (Option (List ℕ)) ℕ
 front_shown o = some_or o 14 >>= λ bytes. Ok (bytes_from bytes 0 65536)
 
 -- the line of a volume that was read
-pub label_read : (shown : Option (List Volume)) (failures failed : ℕ) (volume buffer before after : List ℕ) (got : Got) → AnswersOver shown volume 0 65536 buffer (Ok got)
+pub label_read : (shown : Option (List Volume)) (failures failed : ℕ) (volume buffer before after : List ℕ) (got : Got) → AnswersOver shown volume (0, 65536) buffer (Ok got)
     → IsSized 0 65536 buffer got → after ≡ before ++ line_by volume (name_at buffer) → AppendsLabel shown failures failed volume before after
 unfolding bytes_shown
 label_read None failures failed volume buffer before after got answers sized pushed = (line_by volume (name_at buffer), tt, pushed)
@@ -52,7 +52,7 @@ label_read (Some volumes) failures failed volume buffer before after got answers
     go (Some bytes) e = ap (λ (front : List ℕ). line_by volume (name_at front)) (front_is 65536 bytes buffer got (ok_is (bytes_from bytes 0 65536) (bytes_got buffer got) e) sized)
 
 -- nothing is said of a volume that is not there
-pub label_unknown : (shown : Option (List Volume)) (failures failed : ℕ) (volume buffer before : List ℕ) → AnswersOver shown volume 0 65536 buffer (Err UnknownVolume)
+pub label_unknown : (shown : Option (List Volume)) (failures failed : ℕ) (volume buffer before : List ℕ) → AnswersOver shown volume (0, 65536) buffer (Err UnknownVolume)
     → AppendsLabel shown failures failed volume before before
 unfolding bytes_shown
 label_unknown None failures failed volume buffer before answers = ([], tt, sym (append-nil before))
@@ -69,10 +69,10 @@ label_failed (Some volumes) failures failed volume before more = ([], inr (refl,
 
 -- nor of one for another fault of the drive
 pub label_passed : (shown : Option (List Volume)) (failures failed : ℕ) (volume buffer before : List ℕ) (why : DriveFault) → (why ≡ Fault) ⊎ (why ≡ UnknownVolume)
-    → AnswersOver shown volume 0 65536 buffer (Err why) → (why ≡ Fault → failures < failed) → AppendsLabel shown failures failed volume before before
+    → AnswersOver shown volume (0, 65536) buffer (Err why) → (why ≡ Fault → failures < failed) → AppendsLabel shown failures failed volume before before
 label_passed shown failures failed volume buffer before why (inl is) answers more = label_failed shown failures failed volume before (more is)
 label_passed shown failures failed volume buffer before why (inr is) answers more =
-    label_unknown shown failures failed volume buffer before (subst (λ (f : DriveFault). AnswersOver shown volume 0 65536 buffer (Err f)) is answers)
+    label_unknown shown failures failed volume buffer before (subst (λ (f : DriveFault). AnswersOver shown volume (0, 65536) buffer (Err f)) is answers)
 
 -- ---- all volumes
 

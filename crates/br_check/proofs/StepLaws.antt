@@ -6,8 +6,8 @@ use Rattle.br_model.specs.Meaning.{bound_of, is_covered, just_groups}
 use Rattle.br_model.specs.Volume.{Volume, is_above}
 use Rattle.br_check.specs.ChecksumBlocks.{differing_line, lines_from}
 use Rattle.br_check.specs.ChecksumWalk.{AreAt, ArePassed, GoesOn, HasSize, InLater, InShown, IsCompared, IsStep}
-use Rattle.br_check.specs.declared.checksum_walk.Step.{Step}
-use Rattle.br_check.specs.declared.checksum_walk.Step.TheVariants.{Ended, Failed, Passed}
+use Rattle.br_check.specs.declared.checksum_walk.ChecksumStep.{ChecksumStep}
+use Rattle.br_check.specs.declared.checksum_walk.ChecksumStep.TheVariants.{Ended, Failed, Passed}
 use Rattle.br_check.proofs.BlockLaws.{lines_above, lines_bad, lines_past}
 use Rattle.br_check.proofs.LaterLaws.{ended_cut, passed_asked, passed_unasked, shown_any, shown_so}
 
@@ -32,7 +32,7 @@ module _ (shown : Option (List Volume)) (failures failed : ℕ) (volume : List �
   unasked_passes size near covered has = ([], sym (append-nil text), passed_unasked shown volume gs a size near covered has)
 
   -- at one that is asked for
-  pub compared_step : (size : ℕ) (got after : List ℕ) (step : Step) → is_above (bound_of (just_groups gs)) a ≡ false → is_covered (just_groups gs) a ≡ true
+  pub compared_step : (size : ℕ) (got after : List ℕ) (step : ChecksumStep) → is_above (bound_of (just_groups gs)) a ≡ false → is_covered (just_groups gs) a ≡ true
       → InLater shown volume (λ bytes. HasSize bytes a size) → InShown shown volume (λ bytes. AreAt bytes a size got) → IsCompared volume a size got text after step
       → IsStep shown failures failed volume gs a text after step
   compared_step size got after (Passed n) near covered has at is =
@@ -42,13 +42,13 @@ module _ (shown : Option (List Volume)) (failures failed : ℕ) (volume : List �
   compared_step size got after Failed near covered has at is = absurd is
 
 -- where it goes on
-pub compared_on : (volume : List ℕ) (a size : ℕ) (got before after : List ℕ) (step : Step) → a < 2 ^ 63 → 16 ≤ size → IsCompared volume a size got before after step → GoesOn a step
+pub compared_on : (volume : List ℕ) (a size : ℕ) (got before after : List ℕ) (step : ChecksumStep) → a < 2 ^ 63 → 16 ≤ size → IsCompared volume a size got before after step → GoesOn a step
 compared_on volume a size got before after (Passed n) low least is = (low, omega (arith, least, is.0))
 compared_on volume a size got before after Ended low least is = tt
 compared_on volume a size got before after Failed low least is = absurd is
 
 -- a step after another call of the drive
-pub step_sooner : (shown : Option (List Volume)) (f h failed : ℕ) (volume : List ℕ) (gs : List (ℕ × Group)) (a : ℕ) (before after : List ℕ) (step : Step) → f ≤ h
+pub step_sooner : (shown : Option (List Volume)) (f h failed : ℕ) (volume : List ℕ) (gs : List (ℕ × Group)) (a : ℕ) (before after : List ℕ) (step : ChecksumStep) → f ≤ h
     → IsStep shown h failed volume gs a before after step → IsStep shown f failed volume gs a before after step
 step_sooner shown f h failed volume gs a before after (Passed n) fewer is = is
 step_sooner shown f h failed volume gs a before after Ended fewer is = is

@@ -1,10 +1,10 @@
--- How callers see the blocks that are asked for.
-use Rattle.std.specs.Prelude.{ℕ, List, Option}
+-- What callers see of the blocks that are asked for.
+use Rattle.std.specs.Prelude.{ℕ, List}
 use Rattle.br_model.specs.Bootstrap.{Group}
-use Rattle.br_model.specs.Volume.{Volume}
 use Rattle.br_check.specs.ChecksumWalk.{IsStep}
+use Rattle.br_check.specs.Shown.{Shown}
 use Rattle.br_check.specs.declared.checksum_walk.AskedBlocks.{AskedBlocks}
-use Rattle.br_check.specs.declared.checksum_walk.Step.{Step}
+use Rattle.br_check.specs.declared.checksum_walk.ChecksumStep.{ChecksumStep}
 
 -- the name of the volume
 abbrev pub volume_of : AskedBlocks → List ℕ
@@ -15,6 +15,5 @@ abbrev pub groups_of : AskedBlocks → List (ℕ × Group)
 groups_of a = a.groups.now
 
 -- a step of the walk, over the volumes that a drive may be taken to show
-abbrev pub StepOver : {D : Type 0} → (D → Option (List Volume)) → (D → ℕ) → D → D → AskedBlocks → ℕ → List ℕ → List ℕ → Step → Type 0
-StepOver shows failures earlier later asked address before after step =
-    IsStep (shows later) (failures earlier) (failures later) (volume_of asked) (groups_of asked) address before after step
+abbrev pub StepOver : Shown → AskedBlocks → ℕ → List ℕ → List ℕ → ChecksumStep → Type 0
+StepOver s asked address before after step = IsStep s.later s.failures s.failed (volume_of asked) (groups_of asked) address before after step

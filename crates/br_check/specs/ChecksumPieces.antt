@@ -6,6 +6,7 @@ use Rattle.br_model.specs.Text.{line, escaped}
 use Rattle.br_model.specs.Volume.{Volume}
 use Rattle.br_volume.specs.Drive.{OnlyGrows}
 use Rattle.br_check.specs.ChecksumBlocks.{bytes_in, sum_lines}
+use Rattle.br_check.specs.Shown.{Shown}
 
 -- the line of a volume that the drive failed to read at an address
 abbrev pub failed_line : List ℕ → ℕ → List ℕ
@@ -48,11 +49,10 @@ abbrev pub AppendEach : Option (List Volume) → Option (List Volume) → ℕ �
 AppendEach earlier later failures failed pieces before after =
     (told : List (List ℕ)) × TellEach earlier later failures failed pieces told × (after ≡ before ++ flat_map (λ lines. lines) told)
 
--- the lines about the volumes of a bootstrap's pieces were appended, over the volumes that a drive
--- may be taken to show
-abbrev pub SumsOver : {D : Type 0} → (D → Option (List Volume)) → (D → ℕ) → D → D → List Piece → List ℕ → List ℕ → Type 0
-SumsOver shows failures earlier later pieces before after = AppendEach (shows earlier) (shows later) (failures earlier) (failures later) pieces before after
+-- what is said of the volumes of a bootstrap's pieces was appended, over the volumes that a drive may be taken to show
+abbrev pub SumsOver : Shown → List Piece → List ℕ → List ℕ → Type 0
+SumsOver s pieces before after = AppendEach s.earlier s.later s.failures s.failed pieces before after
 
--- the same for one piece
-abbrev pub PieceOver : {D : Type 0} → (D → Option (List Volume)) → (D → ℕ) → D → D → Piece → List ℕ → List ℕ → Type 0
-PieceOver shows failures earlier later piece before after = AppendsSums (shows later) (failures earlier) (failures later) piece before after
+-- the same of one piece
+abbrev pub PieceOver : Shown → Piece → List ℕ → List ℕ → Type 0
+PieceOver s piece before after = AppendsSums s.later s.failures s.failed piece before after

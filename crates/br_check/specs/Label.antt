@@ -7,6 +7,7 @@ use Rattle.br_model.specs.Meaning.{Piece}
 use Rattle.br_model.specs.Text.{line, escaped}
 use Rattle.br_model.specs.Volume.{Volume, volume_bytes}
 use Rattle.br_volume.specs.Drive.{OnlyGrows}
+use Rattle.br_check.specs.Shown.{Shown}
 
 -- the beginning of a label
 unfoldable pub mark : List ℕ
@@ -98,6 +99,5 @@ AppendsLabels earlier later failures failed pieces before after =
     (told : List (List ℕ)) × TellLabels earlier later failures failed pieces told × (after ≡ before ++ flat_map (λ line. line) told)
 
 -- the same, over the volumes that a drive may be taken to show
-abbrev pub LabelsOver : {D : Type 0} → (D → Option (List Volume)) → (D → ℕ) → D → D → List Piece → List ℕ → List ℕ → Type 0
-LabelsOver shows failures earlier later pieces before after =
-    AppendsLabels (shows earlier) (shows later) (failures earlier) (failures later) pieces before after
+abbrev pub LabelsOver : Shown → List Piece → List ℕ → List ℕ → Type 0
+LabelsOver s pieces before after = AppendsLabels s.earlier s.later s.failures s.failed pieces before after

@@ -1,3 +1,4 @@
+pub mod Shown
 pub mod Search
 pub mod Findings
 pub mod Copies

@@ -3,9 +3,10 @@ ghost use Rattle.std.specs.Prelude.{◌≡◌, ◌≤◌, OnOk};
 ghost use Rattle.br_model.specs.Meaning.{pieces_of};
 ghost use Rattle.br_volume.specs.Drive.{OnlyGrows};
 ghost use Rattle.br_check.specs.ChecksumPieces.{PieceOver, SumsOver};
+ghost use Rattle.br_check.specs.Shown.{shown};
 
 use crate::checksum_lines::push_failed;
-use crate::checksum_walk::{AskedBlocks, Step};
+use crate::checksum_walk::{AskedBlocks, ChecksumStep};
 use br_block::Crc;
 use br_bsr::Bootstrap;
 use br_piece::{Piece, split};
@@ -21,7 +22,7 @@ fn push_piece<D: Drive>(
     piece: &Piece,
     buf: &mut Vec<u8>,
 ) -> Result<(), AllocError>
-    ensures tells { OnOk result (PieceOver D.shows D.failures drive.old drive.new piece.now text.old.items text.new.items) }
+    ensures tells { OnOk result (PieceOver (shown D.Drive drive.old drive.new) piece.now text.old.items text.new.items) }
     ensures grows { OnlyGrows (D.shows drive.old) (D.shows drive.new) }
     ensures counted { D.failures drive.old ≤ D.failures drive.new }
 {
@@ -29,9 +30,9 @@ fn push_piece<D: Drive>(
     let mut addr = 0;
     loop {
         match asked.step(text, drive, addr, buf)? {
-            Step::Passed(size) => addr += u64::from(size),
-            Step::Ended => return Ok(()),
-            Step::Failed => return push_failed(text, &piece.vol, addr),
+            ChecksumStep::Passed(size) => addr += u64::from(size),
+            ChecksumStep::Ended => return Ok(()),
+            ChecksumStep::Failed => return push_failed(text, &piece.vol, addr),
         }
     }
 }
@@ -43,7 +44,7 @@ fn push_pieces<D: Drive>(
     drive: &mut D,
     pieces: &[Piece],
 ) -> Result<(), AllocError>
-    ensures tells { OnOk result (SumsOver D.shows D.failures drive.old drive.new pieces.now text.old.items text.new.items) }
+    ensures tells { OnOk result (SumsOver (shown D.Drive drive.old drive.new) pieces.now text.old.items text.new.items) }
     ensures grows { OnlyGrows (D.shows drive.old) (D.shows drive.new) }
     ensures counted { D.failures drive.old ≤ D.failures drive.new }
 {
@@ -72,7 +73,7 @@ pub fn push_checksums<D: Drive>(
     bootstrap: &Bootstrap,
     drive: &mut D,
 ) -> Result<(), AllocError>
-    ensures tells { OnOk result (SumsOver D.shows D.failures drive.old drive.new (pieces_of bootstrap.now) text.old.items text.new.items) }
+    ensures tells { OnOk result (SumsOver (shown D.Drive drive.old drive.new) (pieces_of bootstrap.now) text.old.items text.new.items) }
     ensures grows { OnlyGrows (D.shows drive.old) (D.shows drive.new) }
     ensures counted { D.failures drive.old ≤ D.failures drive.new }
 {

@@ -9,6 +9,7 @@ ghost use Rattle.br_check.specs.ChecksumWalk.{GoesOn, HasSize, InLater, IsCompar
 use crate::checksum_lines::push_differing;
 use br_block::{BlockHead, Crc};
 use br_bsr::Group;
+use br_match::bound_for;
 use br_types::VolName;
 use br_volume::{Drive, DriveFault, Got};
 use std::alloc::AllocError;
@@ -18,7 +19,7 @@ const HEADER_LEN: u32 = 24;
 
 /// What was read of a volume at an address.
 #[derive(Clone, Copy)]
-enum Seen {
+enum AtAddress {
     /// Bytes, which are in the buffer.
     Bytes,
     /// Nothing: the volume ends there, or does not exist.
@@ -29,7 +30,7 @@ enum Seen {
 
 /// The result of a step of a walk.
 #[derive(Clone, Copy)]
-pub(crate) enum Step {
+pub(crate) enum ChecksumStep {
     /// The walk passed a block of this number of bytes.
     Passed(u32),
     /// The walk has reached its end.
@@ -39,23 +40,23 @@ pub(crate) enum Step {
 }
 
 /// Returns what was seen if a drive read this.
-fn seen_by(got: Got) -> Seen
+fn seen_by(got: Got) -> AtAddress
     ensures { result ≡ seen_of got }
 {
     match got {
-        Got::Block(_) => Seen::Bytes,
-        Got::End => Seen::Nothing,
+        Got::Block(_) => AtAddress::Bytes,
+        Got::End => AtAddress::Nothing,
     }
 }
 
 /// Returns what was seen if a drive read nothing for this reason, unless memory ran out.
-fn unseen(fault: DriveFault) -> Result<Seen, AllocError>
+fn unseen(fault: DriveFault) -> Result<AtAddress, AllocError>
     ensures { IfOk result (IsUnseen fault) }
 {
     match fault {
         DriveFault::Memory => Err(AllocError),
-        DriveFault::Fault => Ok(Seen::Unread),
-        DriveFault::UnknownVolume => Ok(Seen::Nothing),
+        DriveFault::Fault => Ok(AtAddress::Unread),
+        DriveFault::UnknownVolume => Ok(AtAddress::Nothing),
     }
 }
 
@@ -66,7 +67,7 @@ fn read<D: Drive>(
     addr: u64,
     size: u32,
     buf: &mut Vec<u8>,
-) -> Result<Seen, AllocError>
+) -> Result<AtAddress, AllocError>
     ensures seen { IfOk result (IsSeen (D.shows drive.new) (D.failures drive.old) (D.failures drive.new) vol.now addr size buf.new.items) }
     ensures grows { OnlyGrows (D.shows drive.old) (D.shows drive.new) }
     ensures counted { D.failures drive.old ≤ D.failures drive.new }
@@ -75,22 +76,6 @@ fn read<D: Drive>(
         Ok(got) => Ok(seen_by(got)),
         Err(fault) => unseen(fault),
     }
-}
-
-/// Returns the greatest address at which one of the groups asks for records; none if one asks at
-/// every address.
-#[tactic(auto, unfolding(br_model::specs::Meaning::bound_of))]
-fn bound_for(groups: &[(u32, Group)]) -> Option<u64>
-    ensures { result ≡ bound_of (just_groups groups.now) }
-{
-    let mut bound = 0;
-    for (_, group) in groups {
-        match group.last_address() {
-            None => return None,
-            Some(last) => bound = last.max(bound),
-        }
-    }
-    Some(bound)
 }
 
 /// Returns if one of the groups asks for records of the block at this address.
@@ -120,6 +105,7 @@ pub(crate) struct AskedBlocks<'p> {
 
 impl<'p> AskedBlocks<'p> {
     ghost use Rattle.br_check.specs.AskedBlocks.{StepOver, groups_of, volume_of};
+    ghost use Rattle.br_check.specs.Shown.{shown};
 
     /// Returns the blocks of a volume for which these groups ask.
     pub(crate) fn new(crc: &'p Crc, vol: &'p VolName, groups: &'p [(u32, Group)]) -> AskedBlocks<'p>
@@ -152,15 +138,15 @@ impl<'p> AskedBlocks<'p> {
         addr: u64,
         size: u32,
         block: &[u8],
-    ) -> Result<Step, AllocError>
+    ) -> Result<ChecksumStep, AllocError>
         requires least { 16 ≤ size }
         ensures { IfOk result (IsCompared (volume_of self.now) addr size block.now text.old.items text.new.items) }
     {
         if block.len() < size as usize {
-            return Ok(Step::Ended);
+            return Ok(ChecksumStep::Ended);
         }
         push_differing(self.crc, text, self.vol, addr, block)?;
-        Ok(Step::Passed(size))
+        Ok(ChecksumStep::Passed(size))
     }
 
     /// Passes the block at the address, which has this size, and appends its line if a group asks
@@ -172,24 +158,24 @@ impl<'p> AskedBlocks<'p> {
         addr: u64,
         size: u32,
         buf: &mut Vec<u8>,
-    ) -> Result<Step, AllocError>
+    ) -> Result<ChecksumStep, AllocError>
         requires near { is_above (bound_of (just_groups (groups_of self.now))) addr ≡ false }
         requires least { 16 ≤ size }
         requires low { addr < 2 ^ 63 }
         requires sized { InLater (D.shows drive.now) (volume_of self.now) (λ bytes. HasSize bytes addr size) }
         ensures step { IfOk result
-            (StepOver D.shows D.failures drive.old drive.new self.now addr text.old.items text.new.items) }
+            (StepOver (shown D.Drive drive.old drive.new) self.now addr text.old.items text.new.items) }
         ensures on { IfOk result (GoesOn addr) }
         ensures grows { OnlyGrows (D.shows drive.old) (D.shows drive.new) }
         ensures counted { D.failures drive.old ≤ D.failures drive.new }
     {
         if !covers_any(self.groups, addr) {
-            return Ok(Step::Passed(size));
+            return Ok(ChecksumStep::Passed(size));
         }
         match read(drive, self.vol, addr, size, buf)? {
-            Seen::Bytes => self.compare(text, addr, size, buf),
-            Seen::Nothing => Ok(Step::Ended),
-            Seen::Unread => Ok(Step::Failed),
+            AtAddress::Bytes => self.compare(text, addr, size, buf),
+            AtAddress::Nothing => Ok(ChecksumStep::Ended),
+            AtAddress::Unread => Ok(ChecksumStep::Failed),
         }
     }
 
@@ -201,23 +187,23 @@ impl<'p> AskedBlocks<'p> {
         drive: &mut D,
         addr: u64,
         buf: &mut Vec<u8>,
-    ) -> Result<Step, AllocError>
+    ) -> Result<ChecksumStep, AllocError>
         ensures step { IfOk result
-            (StepOver D.shows D.failures drive.old drive.new self.now addr text.old.items text.new.items) }
+            (StepOver (shown D.Drive drive.old drive.new) self.now addr text.old.items text.new.items) }
         ensures on { IfOk result (GoesOn addr) }
         ensures grows { OnlyGrows (D.shows drive.old) (D.shows drive.new) }
         ensures counted { D.failures drive.old ≤ D.failures drive.new }
     {
         if self.is_above(addr) {
-            return Ok(Step::Ended);
+            return Ok(ChecksumStep::Ended);
         }
         match read(drive, self.vol, addr, HEADER_LEN, buf)? {
-            Seen::Bytes => match BlockHead::read(buf) {
+            AtAddress::Bytes => match BlockHead::read(buf) {
                 Ok(head) => self.pass(text, drive, addr, head.size, buf),
-                Err(_) => Ok(Step::Ended),
+                Err(_) => Ok(ChecksumStep::Ended),
             },
-            Seen::Nothing => Ok(Step::Ended),
-            Seen::Unread => Ok(Step::Failed),
+            AtAddress::Nothing => Ok(ChecksumStep::Ended),
+            AtAddress::Unread => Ok(ChecksumStep::Failed),
         }
     }
 }

@@ -115,13 +115,13 @@ fn push_by(
 
 /// The files of a check, with the newest copy of each path, and those that have newer copies.
 #[derive(Clone, Copy)]
-struct Known<'k, 's> {
+struct CheckedFiles<'k, 's> {
     all: &'k [(FileKey, Sketch)],
     copies: &'k NewestCopies<'s>,
     old: &'k NewestCopies<'s>,
 }
 
-impl Known<'_, '_> {
+impl CheckedFiles<'_, '_> {
     /// Appends the line of a file whose path comes more than once.
     fn push_line(&self, text: &mut Vec<u8>, key: FileKey, sketch: &Sketch) -> Result<(), AllocError>
         requires noted { AreNoted self.now.copies.now (copies_of (map outlined self.now.all.now)) }
@@ -142,7 +142,7 @@ impl Known<'_, '_> {
 }
 
 /// Appends a line for each of the files whose path comes more than once.
-fn push_lines(text: &mut Vec<u8>, known: &Known<'_, '_>) -> Result<(), AllocError>
+fn push_lines(text: &mut Vec<u8>, known: &CheckedFiles<'_, '_>) -> Result<(), AllocError>
     requires noted { AreNoted known.now.copies.now (copies_of (map outlined known.now.all.now)) }
     requires old { AreNoted known.now.old.now (outdated (copies_of (map outlined known.now.all.now))) }
     ensures { OnOk result (text.new.items ≡ text.old.items ++ model.copy_lines (map outlined known.now.all.now)) }
@@ -164,7 +164,7 @@ pub(crate) fn push_copies(
 {
     let copies = noted(alloc, sketches)?;
     let old = outdated_of(alloc, &copies, sketches)?;
-    let known = Known {
+    let known = CheckedFiles {
         all: sketches,
         copies: &copies,
         old: &old,

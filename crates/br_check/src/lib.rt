@@ -12,7 +12,7 @@
 mod checksum_lines;
 mod checksum_pieces;
 mod checksum_walk;
-mod conflicts;
+mod conflict_lines;
 mod copies;
 mod findings;
 mod label;
@@ -20,7 +20,7 @@ mod laws;
 mod light;
 mod long;
 mod memory;
-mod names;
+mod name_lines;
 mod run;
 mod search;
 

@@ -2,15 +2,10 @@
 ghost use Rattle.std.specs.Prelude.{◌≡◌, ◌++◌, OnOk};
 
 use br_match::{Batch, Hit};
+use br_records::{DATA, DIGEST};
 use std::alloc::AllocError;
 
-/// The stream of plain data.
-const DATA: u32 = 2;
-
-/// The stream of the data's MD5 digest.
-const DIGEST: u32 = 3;
-
-/// Drops the data of a hit if they are plain data or a digest.
+/// Lets the data of a hit go if they are plain data or a digest.
 fn lighten(hit: &mut Hit)
     ensures { hit.new ≡ hit.old }
 {

@@ -7,7 +7,7 @@ ghost use Rattle.br_check.specs.Findings as model;
 ghost use Rattle.br_check.specs.Findings.{bare_length, is_long_name, long_by, long_line};
 
 use crate::findings::push_named;
-use crate::names::is_on_disk;
+use crate::name_lines::is_on_disk;
 use br_records::{Outline, Sketch};
 use br_types::{FileKey, is_directory_path};
 use std::alloc::AllocError;

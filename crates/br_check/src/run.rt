@@ -1,5 +1,6 @@
 //! The whole check.
 ghost use Rattle.std.specs.Prelude.{◌≡◌, ◌++◌, ◌∷◌, ◌≤◌, ◌*◌, ◌^◌, codes, decimal, flat_map, IfOk, map, OnOk};
+ghost use Rattle.br_check.specs.Shown.{shown};
 ghost use Rattle.br_check.specs.Check.{ChecksOver, IsChecked, checked_text, folder_lines, keys_of, lines_of, outlines_in};
 ghost use Rattle.br_check.specs.Findings.{bytes_in, bytes_of, files_at, files_in, memory_for};
 ghost use Rattle.br_check.specs.Search.{all_found, found_in};
@@ -7,13 +8,13 @@ ghost use Rattle.br_records.specs.ShownRecords.{outlined};
 ghost use Rattle.br_model.specs.Text.{is_empty, line};
 ghost use Rattle.br_volume.specs.Drive.{OnlyGrows};
 
-use crate::conflicts::push_conflicts;
+use crate::conflict_lines::push_conflicts;
 use crate::copies::push_copies;
 use crate::findings::{push_files, push_volumes};
 use crate::label::push_labels;
 use crate::long::push_long;
 use crate::memory::held_beside;
-use crate::names::push_names;
+use crate::name_lines::push_names;
 use crate::search::search;
 use br_bsr::{Bootstrap, Group};
 use br_match::{Found, Hit, PieceFault};
@@ -245,7 +246,7 @@ pub fn check<D: Drive>(
     budget: u64,
     drive: &mut D,
 ) -> Result<Checked, AllocError>
-    ensures checked { IfOk result (ChecksOver D.shows D.failures drive.old drive.new bootstrap.now counts.now budget) }
+    ensures checked { IfOk result (ChecksOver (shown D.Drive drive.old drive.new) bootstrap.now counts.now budget) }
     ensures grows { OnlyGrows (D.shows drive.old) (D.shows drive.new) }
 {
     let pieces = split(alloc, bootstrap)?;

@@ -29,7 +29,7 @@ same_number j k e = ap (λ (r : List ℕ). slice_index r 1) e
 pub kept_once : (jobs : List JobRows) (p : JobRows → Bool) → is_history jobs ≡ true → HasEachRankOnce (filter p jobs)
 kept_once jobs p is j k inside among e = one_job_of_id jobs j k is (from_kept p jobs j inside) (from_kept p jobs k among) (same_number j k e)
 
-is_equal : (o : Ordering) → is_eq o ≡ true → o ≡ Equal
+pub is_equal : (o : Ordering) → is_eq o ≡ true → o ≡ Equal
 is_equal Less e = absurd cc
 is_equal Equal e = refl
 is_equal Greater e = absurd cc

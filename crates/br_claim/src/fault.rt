@@ -4,7 +4,7 @@ ghost use Rattle.br_claim.specs.Fault.{fault_number};
 use thiserror::Error;
 
 /// Why the numbers were not gathered.
-#[derive(Clone, Copy, Debug, PartialEq, Eq, Error)]
+#[derive(Clone, Copy, Debug, Error)]
 pub enum ClaimFault {
     #[error("out of memory")]
     Memory,

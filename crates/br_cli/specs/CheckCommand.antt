@@ -1,15 +1,15 @@
--- The output of a check of a bootstrap, and its end.
-use Rattle.std.specs.Prelude.{◌≡◌, ℕ, List, [], Option, Result, Ok, Err, if◌then◌else◌}
+-- What a check of a bootstrap prints, and how it ends.
+use Rattle.std.specs.Prelude.{◌≡◌, ℕ, List, [], Result, Ok, Err, if◌then◌else◌}
 use Rattle.std.specs.Io.KnownBytes.{Appends}
 use Rattle.std.specs.declared.io.Write as write
 use Rattle.br_model.specs.Meaning.{Piece, pieces_of}
 use Rattle.br_model.specs.Text.{is_empty}
-use Rattle.br_model.specs.Volume.{Volume}
 use Rattle.br_volume.specs.declared.drive.Drive.{Ghosts}
 use Rattle.br_check.specs.Check.{ChecksOver, checked_text}
 use Rattle.br_check.specs.declared.run.Checked.{Checked}
 use Rattle.br_bsr.specs.declared.fault.BsrFault.{BsrFault}
 use Rattle.br_check.specs.ChecksumPieces.{SumsOver}
+use Rattle.br_check.specs.Shown.{Shown, shown}
 use Rattle.br_cli_common.specs.declared.options.Checksums.{Checksums}
 use Rattle.br_cli_common.specs.declared.options.Checksums.TheVariants.{Compared, Passed}
 use Rattle.br_engine.specs.Fault.{IsFree, fault_text}
@@ -23,9 +23,9 @@ use Rattle.br_cli.specs.declared.check_command.CheckTask.{CheckTask}
 abbrev pub checked_status : Checked → ℕ
 checked_status checked = if is_empty checked.findings.items then 0 else 1
 
--- what the check reports about the checksums of some pieces was added to the findings
-pub record HasSums {D : Type 0} (shows : D → Option (List Volume)) (failures : D → ℕ) (earlier later : D) (pieces : List Piece) (first checked : Checked) : Type 0 where
-  pub findings : SumsOver shows failures earlier later pieces first.findings.items checked.findings.items
+-- what was said of the checksums of some pieces was added to what was found
+pub record HasSums (s : Shown) (pieces : List Piece) (first checked : Checked) : Type 0 where
+  pub findings : SumsOver s pieces first.findings.items checked.findings.items
   pub files : checked.files ≡ first.files
   pub bytes : checked.bytes ≡ first.bytes
   pub memory : checked.memory ≡ first.memory
@@ -33,10 +33,10 @@ pub record HasSums {D : Type 0} (shows : D → Option (List Volume)) (failures :
 -- what a check of a bootstrap finds over the drive for a restore that holds this number of bytes of
 -- data; then, if checksums are compared, the report about those
 abbrev pub ChecksFor : {D : Type 0} → Ghosts D → D → D → ReadBootstrap → ℕ → Checksums → Checked → Type 0
-ChecksFor drives earlier later read budget Passed checked = ChecksOver drives.shows drives.failures earlier later read.bootstrap read.counts.items budget checked
+ChecksFor drives earlier later read budget Passed checked = ChecksOver (shown drives earlier later) read.bootstrap read.counts.items budget checked
 ChecksFor {D} drives earlier later read budget Compared checked =
-    (between : D) × (first : Checked) × ChecksOver drives.shows drives.failures earlier between read.bootstrap read.counts.items budget first
-    × HasSums drives.shows drives.failures between later (pieces_of read.bootstrap) first checked
+    (between : D) × (first : Checked) × ChecksOver (shown drives earlier between) read.bootstrap read.counts.items budget first
+    × HasSums (shown drives between later) (pieces_of read.bootstrap) first checked
 
 -- The findings of a check of a bootstrap over the drive were appended to what the writer held, and
 -- the status is that of the findings. Else memory ran out, or the writer failed. If the text of the

@@ -10,8 +10,8 @@ use Rattle.br_engine.specs.declared.fault.ExtractFault.TheVariants.{Io, NoEnd}
 use Rattle.br_engine.specs.Restores.{done_lines}
 use Rattle.br_engine.specs.declared.extracted.Extracted.{Extracted}
 use Rattle.br_sink.specs.KeepGoing.{InLeaving}
-use Rattle.br_cli_target.specs.declared.target_tar.Extent.{Extent}
-use Rattle.br_cli_target.specs.declared.target_tar.Extent.TheVariants.{All, Part}
+use Rattle.br_cli_target.specs.declared.target_tar.PutExtent.{PutExtent}
+use Rattle.br_cli_target.specs.declared.target_tar.PutExtent.TheVariants.{All, Part}
 
 abbrev pub fault_status : ExtractFault → ℕ
 fault_status (Io e) = 3
@@ -44,13 +44,13 @@ run_status (Ok done) failed = done_status done failed
 run_status (Err fault) failed = fault_status fault
 
 -- the number of files that a restore with this end put into its sink
-abbrev pub extent_by : RestoreEnd → Extent
+abbrev pub extent_by : RestoreEnd → PutExtent
 extent_by AllFiles = All
 extent_by SomeFaults = All
 extent_by (Stopped stop) = Part
 
 -- the number of wanted files that a run put into its sink
-abbrev pub extent : Result Extracted ExtractFault → Extent
+abbrev pub extent : Result Extracted ExtractFault → PutExtent
 extent (Ok done) = extent_by done.end
 extent (Err fault) = Part
 

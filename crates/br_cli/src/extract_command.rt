@@ -13,7 +13,7 @@ use br_bsr::{Bootstrap, BsrFault};
 use br_cli_common::{CLEAN, ExtractOptions, REFUSED, Target, refuse_start};
 use br_cli_progress::{Gauge, WatchedSink, WatchedWriter};
 use br_cli_target::{
-    BAD_STREAM, Channel, Ending, Extent, LeavingSink, Streamed, TarEnd, TarFault, Told,
+    BAD_STREAM, Channel, Ending, LeavingSink, PutExtent, Streamed, TarEnd, TarFault, ToldOutcomes,
     add_tar_end, advise, end_stream, folder_of, gauge_of, lacks_volumes, leaving_over, log_fault,
     refuse_log, refuse_place, restore_over, say_conflicts, say_files, say_nowhere, say_stop,
     say_volumes, tar_into, tar_onto, tell_others, tell_outcomes, with_watched_drives,
@@ -125,7 +125,7 @@ fn report(
     rt: &HostRuntime,
     gauge: &Gauge<'_>,
     given: &ExtractOptions<'_>,
-    told: &Told<'_>,
+    told: &ToldOutcomes<'_>,
     run: &Result<Extracted, ExtractFault>,
     (failed, end): (&[Path], Option<TarEnd>),
 ) -> io::Result<u8> {
@@ -359,7 +359,7 @@ pub fn extract_over<D: Drive + Send, W: Flush, S: Sink>(
 }
 
 /// Returns the number of wanted files that a run put into its sink.
-fn extent_of(run: &Result<Extracted, ExtractFault>) -> Extent
+fn extent_of(run: &Result<Extracted, ExtractFault>) -> PutExtent
     ensures { result ≡ extent run.now }
 {
     match run {
@@ -368,8 +368,8 @@ fn extent_of(run: &Result<Extracted, ExtractFault>) -> Extent
                 end: RestoreEnd::AllFiles | RestoreEnd::SomeFaults,
                 ..
             },
-        ) => Extent::All,
-        _ => Extent::Part,
+        ) => PutExtent::All,
+        _ => PutExtent::Part,
     }
 }
 
@@ -436,7 +436,7 @@ fn extract_into(
     let run = extract_over(threads, &extraction, &mut restore, &mut writer);
     gauge.clear();
     name_others(rt, gauge, given, &run)?;
-    let told = Told::by(&writer, bootstrap);
+    let told = ToldOutcomes::by(&writer, bootstrap);
     report(
         rt,
         gauge,
@@ -472,7 +472,7 @@ fn extract_onto<T: Channel + Drop, W: Channel + Drop>(
     let mut writer = WatchedWriter::new(writer, gauge);
     let stream = extract_stream(threads, &extraction, &mut restore, &mut writer);
     gauge.clear();
-    let told = Told::by(&writer, bootstrap);
+    let told = ToldOutcomes::by(&writer, bootstrap);
     report(
         rt,
         gauge,

@@ -18,8 +18,8 @@ use std::sync::Wait;
 use std::thread::Threads;
 use thiserror::Error;
 
-/// The reason why no script began.
-#[derive(Clone, Copy, Debug, PartialEq, Eq, Error)]
+/// Why no script began.
+#[derive(Clone, Copy, Debug, Error)]
 pub enum ServeStartFault {
     #[error("out of memory")]
     Memory,

@@ -5,11 +5,11 @@ use Rattle.clap.specs.Walk.{Rule, Text}
 use Rattle.br_cli_args.specs.ClapCommands.{drives_rule, flag_rule, memory_rule, number_rule, value_rule}
 use Rattle.br_cli_args.specs.declared.command_row.CommandRow.{CommandRow}
 use Rattle.br_cli_args.specs.declared.option_row.OptionRow.{OptionRow}
-use Rattle.br_cli_args.specs.declared.option_row.Takes.{Takes}
-use Rattle.br_cli_args.specs.declared.option_row.Takes.TheVariants.{Nothing, Value, Needed, Drives, Memory, Number}
+use Rattle.br_cli_args.specs.declared.option_row.ValueKind.{ValueKind}
+use Rattle.br_cli_args.specs.declared.option_row.ValueKind.TheVariants.{Nothing, Value, Needed, Drives, Memory, Number}
 
 -- an option of this name, by what it takes
-abbrev pub rule_by : Takes → Text → Rule
+abbrev pub rule_by : ValueKind → Text → Rule
 rule_by Nothing name = flag_rule name
 rule_by Value name = value_rule name false
 rule_by Needed name = value_rule name true

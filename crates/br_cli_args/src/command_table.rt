@@ -5,7 +5,7 @@ ghost use Rattle.clap.specs.declared.builder.command.Command.TheViews.{out-Comma
 ghost use Rattle.br_cli_args.specs.ClapCommands.{program_app, with_all_commands};
 
 use crate::command_row::{CommandRow, with_commands};
-use crate::option_row::{OptionRow, Takes};
+use crate::option_row::{OptionRow, ValueKind};
 use clap::Command;
 use std::alloc::{AllocError, Global};
 
@@ -13,7 +13,7 @@ use std::alloc::{AllocError, Global};
 const BSR: OptionRow = OptionRow {
     name: "bsr",
     value: "FILE",
-    takes: Takes::Needed,
+    takes: ValueKind::Needed,
     help: "The file of the bootstrap",
 };
 
@@ -21,7 +21,7 @@ const BSR: OptionRow = OptionRow {
 const VOLUMES: OptionRow = OptionRow {
     name: "volumes",
     value: "DIR",
-    takes: Takes::Needed,
+    takes: ValueKind::Needed,
     help: "The folder of the volumes",
 };
 
@@ -29,7 +29,7 @@ const VOLUMES: OptionRow = OptionRow {
 const DB: OptionRow = OptionRow {
     name: "db",
     value: "FILE",
-    takes: Takes::Needed,
+    takes: ValueKind::Needed,
     help: "The file of the catalogue",
 };
 
@@ -37,7 +37,7 @@ const DB: OptionRow = OptionRow {
 const MEMORY: OptionRow = OptionRow {
     name: "memory",
     value: "SIZE",
-    takes: Takes::Memory,
+    takes: ValueKind::Memory,
     help: "The memory for data: bytes, or a number with K, M or G; what is beyond it is read again",
 };
 
@@ -46,32 +46,32 @@ const RESTORING: [OptionRow; 6] = [
     OptionRow {
         name: "into",
         value: "DIR",
-        takes: Takes::Value,
+        takes: ValueKind::Value,
         help: "The empty folder to write the restored files into",
     },
     OptionRow {
         name: "tar",
         value: "FILE",
-        takes: Takes::Value,
+        takes: ValueKind::Value,
         help: "The new file to write the restored files into as a tar stream, - for standard output",
     },
     OptionRow {
         name: "drives",
         value: "N",
-        takes: Takes::Drives,
+        takes: ValueKind::Drives,
         help: "The number of drives that read the volumes at once, 1 to 16",
     },
     MEMORY,
     OptionRow {
         name: "quiet",
         value: "",
-        takes: Takes::Nothing,
+        takes: ValueKind::Nothing,
         help: "Does not show at a terminal how far the restore is",
     },
     OptionRow {
         name: "log",
         value: "FILE",
-        takes: Takes::Value,
+        takes: ValueKind::Value,
         help: "The file to append a log to: each file as it is written, and what went wrong",
     },
 ];
@@ -81,25 +81,25 @@ const CHOICES: [OptionRow; 4] = [
     OptionRow {
         name: "newest",
         value: "",
-        takes: Takes::Nothing,
+        takes: ValueKind::Nothing,
         help: "Writes the newest copy alone of a path that comes several times",
     },
     OptionRow {
         name: "complete",
         value: "",
-        takes: Takes::Nothing,
+        takes: ValueKind::Nothing,
         help: "Reports the files that the bootstrap asks for and that are not there",
     },
     OptionRow {
         name: "keep-going",
         value: "",
-        takes: Takes::Nothing,
+        takes: ValueKind::Nothing,
         help: "Leaves out a file that can't be written, and writes the others",
     },
     OptionRow {
         name: "resume",
         value: "",
-        takes: Takes::Nothing,
+        takes: ValueKind::Nothing,
         help: "Goes on with a restore that was cut off: of the files in DIR those that are whole stay",
     },
 ];
@@ -114,19 +114,19 @@ const CONSOLE: [OptionRow; 5] = [
     OptionRow {
         name: "client",
         value: "NAME",
-        takes: Takes::Needed,
+        takes: ValueKind::Needed,
         help: "The name of the client",
     },
     OptionRow {
         name: "fileset",
         value: "NAME",
-        takes: Takes::Needed,
+        takes: ValueKind::Needed,
         help: "The name of the file set",
     },
     OptionRow {
         name: "before",
         value: "MOMENT",
-        takes: Takes::Needed,
+        takes: ValueKind::Needed,
         help: "Uses only jobs that began before YYYY-MM-DD HH:MM:SS, in UTC",
     },
 ];
@@ -138,7 +138,7 @@ const CHECK: [OptionRow; 4] = [
     OptionRow {
         name: "checksums",
         value: "",
-        takes: Takes::Nothing,
+        takes: ValueKind::Nothing,
         help: "Reads whole blocks, and compares the checksum that each has",
     },
     MEMORY,
@@ -150,25 +150,25 @@ const JOBS: [OptionRow; 5] = [
     OptionRow {
         name: "client",
         value: "NAME",
-        takes: Takes::Value,
+        takes: ValueKind::Value,
         help: "Lists only jobs of this client",
     },
     OptionRow {
         name: "fileset",
         value: "NAME",
-        takes: Takes::Value,
+        takes: ValueKind::Value,
         help: "Lists only jobs of this file set",
     },
     OptionRow {
         name: "before",
         value: "MOMENT",
-        takes: Takes::Value,
+        takes: ValueKind::Value,
         help: "Lists only jobs that began before YYYY-MM-DD HH:MM:SS, in UTC",
     },
     OptionRow {
         name: "local",
         value: "",
-        takes: Takes::Nothing,
+        takes: ValueKind::Nothing,
         help: "Shows each moment in the time zone of this system, too",
     },
 ];
@@ -177,7 +177,7 @@ const JOBS: [OptionRow; 5] = [
 const EXPLAIN: [OptionRow; 1] = [OptionRow {
     name: "number",
     value: "N",
-    takes: Takes::Number,
+    takes: ValueKind::Number,
     help: "The number to explain; all numbers if it is left out",
 }];
 
@@ -186,13 +186,13 @@ const SERVE: [OptionRow; 3] = [
     OptionRow {
         name: "db",
         value: "FILE",
-        takes: Takes::Value,
+        takes: ValueKind::Value,
         help: "The file of the catalogue, which is made if it is not there",
     },
     OptionRow {
         name: "volumes",
         value: "DIR",
-        takes: Takes::Value,
+        takes: ValueKind::Value,
         help: "The folder of the volumes; given with --db, or neither is",
     },
     MEMORY,

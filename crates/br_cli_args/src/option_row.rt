@@ -15,7 +15,7 @@ const GREATEST_NUMBER: u64 = 4_294_967_295;
 
 /// The kind of value of an option.
 #[derive(Clone, Copy)]
-pub(crate) enum Takes {
+pub(crate) enum ValueKind {
     /// No value.
     Nothing,
     /// A value that is not empty. The option may be omitted.
@@ -36,7 +36,7 @@ pub(crate) struct OptionRow {
     pub(crate) name: &'static str,
     /// The word for the value in the help.
     pub(crate) value: &'static str,
-    pub(crate) takes: Takes,
+    pub(crate) takes: ValueKind,
     pub(crate) help: &'static str,
 }
 
@@ -98,12 +98,12 @@ fn option_of<'a>(alloc: Global, row: &OptionRow) -> Arg<'a>
     ensures local { result.global ≡ false }
 {
     match row.takes {
-        Takes::Nothing => flag_option(alloc, row),
-        Takes::Value => value_option(alloc, row, false),
-        Takes::Needed => value_option(alloc, row, true),
-        Takes::Drives => drives_option(alloc, row),
-        Takes::Memory => value_option(alloc, row, false).default_value("1G"),
-        Takes::Number => number_argument(alloc, row),
+        ValueKind::Nothing => flag_option(alloc, row),
+        ValueKind::Value => value_option(alloc, row, false),
+        ValueKind::Needed => value_option(alloc, row, true),
+        ValueKind::Drives => drives_option(alloc, row),
+        ValueKind::Memory => value_option(alloc, row, false).default_value("1G"),
+        ValueKind::Number => number_argument(alloc, row),
     }
 }
 

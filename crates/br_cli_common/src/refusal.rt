@@ -5,8 +5,8 @@ ghost use Rattle.br_cli_common.specs.RefusalTable.{explained, is_outcome};
 
 use crate::refusal_table::REFUSALS;
 
-/// What an operator should know of a refusal or of an outcome of a file, by its number.
-#[derive(Clone, Copy, PartialEq, Eq)]
+/// What an operator should know of a refusal, or of an outcome of a file, by its number.
+#[derive(Clone, Copy)]
 pub struct Refusal {
     pub number: u32,
     pub name: &'static str,
@@ -37,6 +37,7 @@ fn row_in(refusals: &'static [Refusal], number: u32) -> Option<&'static Refusal>
     ensures known { is_some result ≡ list_any (λ n. n == number) (map (λ row. row.number) refusals.now) }
     ensures number { IfSome result (λ row. row.now.number ≡ number) }
 {
+    // The search has a clause of its own, from which these are proved.
     find_in(refusals, number)
 }
 

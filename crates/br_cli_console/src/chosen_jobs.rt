@@ -1,9 +1,8 @@
 //! The chosen jobs, as a terminal shows them before a session.
 
 use br_cli_common::is_shown;
-use br_history::History;
-use br_jobs::{Filter, marked_lines};
-use br_plan::Request;
+use br_jobs::{Filter, Zones, list_jobs};
+use br_plan::JobSelection;
 use std::{io, str};
 
 /// The fields of a line of a job: the number of its files and its volumes.
@@ -28,16 +27,16 @@ fn tell_job(rt: &HostRuntime, line: &[u8]) -> io::Result<()> {
     Ok(())
 }
 
-/// Prints the jobs that a request chooses to standard error, if that is a terminal, in the format
-/// of the command `jobs`.
+/// Prints the chosen jobs to standard error, if that is a terminal, in the form of the command `jobs`.
 ///
 /// # Errors
 ///
 /// If memory ran out, or standard error failed.
-pub fn tell_chosen(rt: &HostRuntime, history: &History, request: &Request) -> io::Result<()> {
+pub fn tell_chosen(rt: &HostRuntime, asked: &JobSelection<'_>) -> io::Result<()> {
     if !is_shown(rt) {
         return Ok(());
     }
+    let request = asked.request();
     let (client, fileset) = (request.client.bytes(), request.fileset.bytes());
     let (Ok(client), Ok(fileset)) = (str::from_utf8(client), str::from_utf8(fileset)) else {
         return Ok(());
@@ -47,8 +46,12 @@ pub fn tell_chosen(rt: &HostRuntime, history: &History, request: &Request) -> io
         fileset: Some(fileset),
         before: Some(request.moment),
     };
-    // When the session begins, it reports why nothing is chosen.
-    let Ok(text) = marked_lines(rt.alloc(), history, &filter) else {
+    // Why nothing is chosen is told when the session begins.
+    let Ok(chosen) = asked.jobs(rt.alloc()) else {
+        return Ok(());
+    };
+    let jobs = asked.history().jobs();
+    let Ok(text) = list_jobs(rt.alloc(), jobs, &filter, &Zones::Utc, &chosen) else {
         return Ok(());
     };
     for line in text.split(|byte| *byte == b'\n') {

@@ -15,28 +15,28 @@ ghost use Rattle.br_cli_console.specs.ConsoleTasks.{StreamsOver};
 ghost use Rattle.br_cli_console.specs.declared.console_command.ConsoleStartFault.TheVariants as start;
 
 use crate::chosen_jobs::tell_chosen;
-use crate::helped_reader::with_help;
-use br_cli_common::{CLEAN, ConsoleOptions, REFUSED, Target, with_prompt};
+use crate::helped_reader::{Helped, with_help};
+use crate::jobs_command::jobs_in;
+use br_cli_common::{CLEAN, ConsoleOptions, Prompted, REFUSED, Target, with_prompt};
 use br_cli_progress::{Gauge, WatchedSink, WatchedWriter};
 use br_cli_target::{
-    BAD_STREAM, Channel, Ending, Extent, HostSink, Streamed, TarFault, Told, add_tar_end,
-    end_stream, folder_of, gauge_of, lacks_volumes, log_fault, refuse_log, refuse_place,
-    restore_over, say_nowhere, say_stop, say_volumes, sink_over, tar_into, tar_onto, tell_outcomes,
-    with_watched_drives, with_watched_sink,
+    BAD_STREAM, Channel, Ending, PutExtent, ResumingSink, Streamed, TarFault, ToldOutcomes,
+    add_tar_end, end_stream, folder_of, gauge_of, lacks_volumes, log_fault, refuse_log,
+    refuse_place, restore_over, resuming_over, say_nowhere, say_stop, say_volumes, tar_into,
+    tar_onto, tell_outcomes, with_watched_drives, with_watched_sink,
 };
-use br_console::{ConsoleFault, ConsoleRun, End, JobSelection, Lines, run_console};
+use br_console::{ConsoleFault, ConsoleRun, End, LineVerdict, run_console};
 use br_engine::{Flush, Restore, RestoreEnd};
 use br_history::History;
 use br_keeper::{Catalogue, CatalogueFault};
-use br_plan::{Request, RequestFault, read_request};
+use br_plan::{JobSelection, Request, RequestFault, read_request};
 use br_sink_folder::FolderFault;
 use br_sink_tar::TarSink;
-use br_types::Path;
+use br_types::{Path, Start};
 use br_volume::{Drive, HostDrive};
 use std::alloc::{AllocError, Global};
-use std::cell::OnceCell;
-use std::fs::{self, File};
-use std::io::{self, BufRead, BufReader, BufWriter, ErrorKind, Printer};
+use std::fs::File;
+use std::io::{self, BufRead, BufReader, BufWriter, ErrorKind, Printer, StdinLock};
 use std::sync::Wait;
 use std::thread::Threads;
 use thiserror::Error;
@@ -52,8 +52,8 @@ fn status_of(run: &ConsoleRun) -> u8
 {
     match &run.end {
         End::Quit | End::Done(RestoreEnd::AllFiles) => match run.lines {
-            Lines::AllAccepted => CLEAN,
-            Lines::SomeRefused => REFUSED,
+            LineVerdict::AllAccepted => CLEAN,
+            LineVerdict::SomeRefused => REFUSED,
         },
         End::Done(RestoreEnd::SomeFaults | RestoreEnd::Stopped(_)) => REFUSED,
     }
@@ -150,7 +150,7 @@ fn report(
     rt: &HostRuntime,
     gauge: &Gauge<'_>,
     given: &ConsoleOptions<'_>,
-    (told, failed): (&Told<'_>, Option<&Path>),
+    (told, failed): (&ToldOutcomes<'_>, Option<&Path>),
     run: &Result<ConsoleRun, ConsoleFault>,
     ending: &Ending,
 ) -> io::Result<u8> {
@@ -185,8 +185,6 @@ pub enum ConsoleStartFault {
     /// The file to write a tar stream into was refused.
     #[error("{0}")]
     Tar(TarFault),
-    #[error("the file of the catalogue is not there")]
-    NoCatalogue,
     /// The catalogue was refused.
     #[error("{0}")]
     Catalogue(CatalogueFault),
@@ -243,28 +241,12 @@ impl ConsoleStartFault {
             ConsoleStartFault::Request(fault) => fault.number(),
             ConsoleStartFault::Folder(fault) => fault.number(),
             ConsoleStartFault::Tar(fault) => fault.number(),
-            ConsoleStartFault::NoCatalogue => 45,
             ConsoleStartFault::Catalogue(fault) => fault.number(),
         }
     }
 }
 
-/// Loads the jobs in the file of a catalogue, if the file is there.
-fn jobs_in<C: Catalogue>(
-    rt: &HostRuntime,
-    catalogue: &C,
-    db: &str,
-) -> Result<History, ConsoleStartFault>
-    ensures jobs { IfOk result (λ history. AreJobs (C.jobs_at catalogue.now db.now) history) }
-{
-    // No catalogue is opened for a file that does not exist.
-    if fs::metadata(rt, db).is_err() {
-        return Err(ConsoleStartFault::NoCatalogue);
-    }
-    Ok(catalogue.load(db)?)
-}
-
-/// The jobs of a catalogue, and the request that chooses among them.
+/// The jobs of a catalogue, and which of them to choose.
 #[derive(Drop)]
 pub struct ConsoleJobs {
     history: History,
@@ -272,15 +254,12 @@ pub struct ConsoleJobs {
 }
 
 impl ConsoleJobs {
-    /// Returns the jobs and the request of a session.
-    fn selection(&self) -> JobSelection<'_>
-        ensures history { result.history.now ≡ self.now.history }
-        ensures request { result.request.now ≡ self.now.request }
+    /// Chooses the jobs that a session is over.
+    fn selection(&self, alloc: Global) -> JobSelection<'_>
+        ensures history { result.history ≡ self.now.history }
+        ensures request { result.request ≡ self.now.request }
     {
-        JobSelection {
-            history: &self.history,
-            request: &self.request,
-        }
+        JobSelection::new(alloc, &self.history, &self.request)
     }
 }
 
@@ -301,16 +280,16 @@ pub fn set_up_console<'r, C: Catalogue>(
     rt: &'r HostRuntime,
     catalogue: &C,
     given: &ConsoleOptions<'_>,
-) -> Result<ConsoleSetup<'r, HostSink<'r>>, ConsoleStartFault>
+) -> Result<ConsoleSetup<'r, ResumingSink<'r>>, ConsoleStartFault>
     ensures asked { IfOk result (λ setup. request_asked given.now ≡ Ok setup.0.request) }
-    ensures into { IfOk result (λ setup. option_map (λ s. s.path) setup.1.sink ≡ folder_asked given.now.target) }
+    ensures into { IfOk result (λ setup. option_map (λ s. s.folder.path) setup.1.sink ≡ folder_asked given.now.target) }
     ensures jobs { IfOk result (λ setup. AreJobs (C.jobs_at catalogue.now given.now.db.now) setup.0.history) }
     ensures memory { IfOk result (λ setup. setup.1.budget.room ≡ given.now.memory) }
     ensures drives { IfOk result (λ setup. length setup.1.drives.items ≡ given.now.drives) }
     ensures volumes { IfOk result (λ setup. AreOver given.now.volumes.now setup.1.drives.items) }
 {
     let request = request_of(rt.alloc(), given)?;
-    let sink = sink_over(rt, folder_of(given.target))?;
+    let sink = resuming_over(rt, Start::Empty, folder_of(given.target))?;
     set_up_over(rt, catalogue, given, request, sink)
 }
 
@@ -335,29 +314,29 @@ fn set_up_over<'r, C: Catalogue, S: Drop>(
 }
 
 /// Returns the number of marked files that a run put into its sink.
-fn extent_of(run: &Result<ConsoleRun, ConsoleFault>) -> Extent
+fn extent_of(run: &Result<ConsoleRun, ConsoleFault>) -> PutExtent
     ensures { result ≡ extent run.now }
 {
     match run {
         Ok(run) => extent_by(&run.end),
-        Err(_) => Extent::Part,
+        Err(_) => PutExtent::Part,
     }
 }
 
 /// Returns the same from the end of a session. A session that was quit has no files to put.
-fn extent_by(end: &End) -> Extent
+fn extent_by(end: &End) -> PutExtent
     ensures { result ≡ extent_by end.now }
 {
     match end {
-        End::Quit | End::Done(RestoreEnd::AllFiles | RestoreEnd::SomeFaults) => Extent::All,
-        End::Done(RestoreEnd::Stopped(_)) => Extent::Part,
+        End::Quit | End::Done(RestoreEnd::AllFiles | RestoreEnd::SomeFaults) => PutExtent::All,
+        End::Done(RestoreEnd::Stopped(_)) => PutExtent::Part,
     }
 }
 
 /// Runs a session whose sink writes a tar stream, and ends the stream if all files were put.
 fn console_stream<R: BufRead + Drop, D: Drive + Send, W: Flush + Drop, T: Flush + Drop>(
     threads: &(impl Threads + Wait + Sync),
-    jobs: &ConsoleJobs,
+    asked: &JobSelection<'_>,
     restore: &mut Restore<D, WatchedSink<'_, '_, TarSink<T>>>,
     reader: &mut R,
     writer: &mut W,
@@ -365,16 +344,26 @@ fn console_stream<R: BufRead + Drop, D: Drive + Send, W: Flush + Drop, T: Flush 
     requires drives { AreDrives restore.old.drives.items }
     requires shown { W.is_flushed writer.old }
     requires sink { IsSome restore.old.sink }
-    ensures streams { StreamsOver (R.remaining reader.old) D.Drive W.Write T.contents jobs.now (restore.old, writer.old) (restore.new, writer.new) result }
+    ensures streams { StreamsOver (R.remaining reader.old) D.Drive W.Write T.contents asked.now (restore.old, writer.old) (restore.new, writer.new) result }
     ensures flushed { OnOk result.run (W.is_flushed writer.new) }
     ensures shown { IfSome result.writer (λ w. IsShown (T.is_flushed w) result.end) }
 {
-    let run = run_console(threads, restore, &jobs.selection(), reader, writer);
+    let run = run_console(threads, restore, asked, reader, writer);
     let (writer, end) = end_stream(restore.sink.take(), extent_of(&run));
     Streamed { run, end, writer }
 }
 
-/// Returns the path of the first file at which a watched sink failed, if it did.
+/// Returns the lines of standard input, with a prompt before each and with answers to `help` and `dir` if an
+/// operator attends to it.
+fn lines_of<'a, 'j, 'r>(
+    rt: &'r HostRuntime,
+    asked: &'a JobSelection<'j>,
+) -> io::Result<BufReader<Helped<'a, 'j, 'r, Prompted<'r, StdinLock<'r>>>>> {
+    let input = with_prompt(rt, GREETING, rt.reader());
+    Ok(BufReader::new(rt.alloc(), with_help(rt, asked, input))?)
+}
+
+/// Returns the path of the first file that a watched sink failed at, if it did.
 fn failed_at<'s, S>(sink: &'s Option<WatchedSink<'_, '_, S>>) -> Option<&'s Path> {
     match sink {
         Some(sink) => sink.failed().first(),
@@ -382,14 +371,13 @@ fn failed_at<'s, S>(sink: &'s Option<WatchedSink<'_, '_, S>>) -> Option<&'s Path
     }
 }
 
-/// Restores by lines into a folder, or only prints the manifest if there is none.
-fn restore_into<C: Catalogue, R: BufRead + Drop>(
+/// Restores by lines into a folder, or prints the manifest alone if there is none.
+fn restore_into<C: Catalogue>(
     rt: &HostRuntime,
     threads: &(impl Threads + Wait + Sync),
     catalogue: &C,
     gauge: &Gauge<'_>,
     given: &ConsoleOptions<'_>,
-    reader: &mut R,
 ) -> io::Result<u8>
     requires few { AreFew given.now.drives }
     requires asked { stream_asked given.now.target ≡ None }
@@ -399,19 +387,15 @@ fn restore_into<C: Catalogue, R: BufRead + Drop>(
         Ok(setup) => setup,
         Err(fault) => return refuse_place(rt, gauge, given.target, fault.number()),
     };
-    tell_chosen(rt, &jobs.history, &jobs.request)?;
     let mut restore = with_watched_sink(with_watched_drives(restore, gauge)?, gauge);
+    let asked = jobs.selection(rt.alloc());
+    tell_chosen(rt, &asked)?;
+    let mut reader = lines_of(rt, &asked)?;
     let mut writer = WatchedWriter::new(writer, gauge);
-    let run = run_console(
-        threads,
-        &mut restore,
-        &jobs.selection(),
-        reader,
-        &mut writer,
-    );
+    let run = run_console(threads, &mut restore, &asked, &mut reader, &mut writer);
     gauge.clear();
     let ending = console_ending(rt.alloc(), &run)?;
-    let told = Told::of_session(&writer);
+    let told = ToldOutcomes::of_session(&writer);
     let failed = failed_at(&restore.sink);
     report(rt, gauge, given, (&told, failed), &run, &ending)
 }
@@ -455,14 +439,13 @@ fn set_up_tar_output<'r, C: Catalogue>(
     set_up_over(rt, catalogue, given, request, sink)
 }
 
-/// Restores by lines into the prepared tar stream. The answers go to its writer: standard output,
-/// or another one if the stream goes there. Returns the exit status.
-fn restore_onto<'r, R: BufRead + Drop, T: Channel + Drop, W: Channel + Drop>(
+/// Restores by lines into the tar stream that was set up, with the answers to its writer: standard output,
+/// or something else if the stream goes there. Returns the exit status.
+fn restore_onto<'r, T: Channel + Drop, W: Channel + Drop>(
     threads: &(impl Threads + Wait + Sync),
     watch: (&'r HostRuntime, &'r Gauge<'r>),
     given: &ConsoleOptions<'_>,
     setup: ConsoleSetup<'r, TarSink<BufWriter<T>>>,
-    reader: &mut R,
     answers: BufWriter<W>,
 ) -> io::Result<u8>
     requires few { AreFew (length setup.1.drives.items) }
@@ -472,82 +455,36 @@ fn restore_onto<'r, R: BufRead + Drop, T: Channel + Drop, W: Channel + Drop>(
 {
     let (rt, gauge) = watch;
     let (jobs, restore) = setup;
-    tell_chosen(rt, &jobs.history, &jobs.request)?;
     let mut restore = with_watched_sink(with_watched_drives(restore, gauge)?, gauge);
+    let asked = jobs.selection(rt.alloc());
+    tell_chosen(rt, &asked)?;
+    let mut reader = lines_of(rt, &asked)?;
     let mut writer = WatchedWriter::new(answers, gauge);
-    let stream = console_stream(threads, &jobs, &mut restore, reader, &mut writer);
+    let stream = console_stream(threads, &asked, &mut restore, &mut reader, &mut writer);
     gauge.clear();
     let mut ending = console_ending(rt.alloc(), &stream.run)?;
     add_tar_end(&mut ending, stream.end)?;
-    let told = Told::of_session(&writer);
+    let told = ToldOutcomes::of_session(&writer);
     report(rt, gauge, given, (&told, None), &stream.run, &ending)
 }
 
-/// Reads lines and answers them on standard output, over the jobs of a client's file set before a
-/// moment in a catalogue. After `done` prints the bootstrap and the manifest, and puts the restored
-/// files into their target: a folder, or a tar stream in a file or on standard output. In the last
-/// case all that is printed goes to standard error. Refusals of a line are part of the answers; any
-/// other refusal, and the stop of a delivery, goes to standard error.
+/// Reads lines of standard input and answers them on standard output, over the jobs of a client's file set
+/// before a moment in a catalogue. After `done` prints the bootstrap and the manifest, and puts the restored
+/// files where they are to go: into a folder, or as a tar stream into a file or to standard output. In the
+/// last case all that is printed goes to standard error. What is refused of a line is part of the answers;
+/// any other refusal goes to standard error, and so does the stop of a delivery.
 ///
 /// Client and file set (2), moment (52), the target (81: a folder has to exist and be empty, a file
 /// must not exist), and the catalogue (45, 47) are tested in this order before a line is read. The
 /// manifest is printed before any file is put.
 ///
 /// Returns the exit status: 0 if nothing was refused and each outcome is a file; 1 if something was
-/// refused or some outcome is not a file; 3 if the log could not be opened, or the reader or standard output
+/// refused or some outcome is not a file; 3 if the log could not be opened, or standard input or output
 /// failed.
 ///
 /// # Errors
 ///
 /// If memory ran out or standard error failed.
-pub fn restore_by_lines<C: Catalogue, R: BufRead + Drop>(
-    rt: &HostRuntime,
-    threads: &(impl Threads + Wait + Sync),
-    catalogue: &C,
-    given: &ConsoleOptions<'_>,
-    reader: &mut R,
-) -> io::Result<u8>
-    requires few { AreFew given.now.drives }
-{
-    match gauge_of(rt, given.volumes, given.progress, given.log) {
-        Ok(gauge) => restore_told(rt, threads, catalogue, &gauge, given, reader),
-        Err(error) => refuse_log(rt, given.log, error),
-    }
-}
-
-/// Restores as `restore_by_lines` does, and watches the restore.
-fn restore_told<C: Catalogue, R: BufRead + Drop>(
-    rt: &HostRuntime,
-    threads: &(impl Threads + Wait + Sync),
-    catalogue: &C,
-    gauge: &Gauge<'_>,
-    given: &ConsoleOptions<'_>,
-    reader: &mut R,
-) -> io::Result<u8>
-    requires few { AreFew given.now.drives }
-{
-    let watch = (rt, gauge);
-    match given.target {
-        Target::Nowhere => restore_into(rt, threads, catalogue, gauge, given, reader),
-        Target::Folder(_) => restore_into(rt, threads, catalogue, gauge, given, reader),
-        Target::TarFile(path) => {
-            let answers = BufWriter::new(rt.alloc(), io::writer(rt))?;
-            match set_up_tar_file(rt, catalogue, given, path) {
-                Ok(setup) => restore_onto(threads, watch, given, setup, reader, answers),
-                Err(fault) => refuse_place(rt, gauge, given.target, fault.number()),
-            }
-        }
-        Target::TarOutput => {
-            let answers = BufWriter::new(rt.alloc(), rt.stderr())?;
-            match set_up_tar_output(rt, catalogue, given) {
-                Ok(setup) => restore_onto(threads, watch, given, setup, reader, answers),
-                Err(fault) => refuse_place(rt, gauge, given.target, fault.number()),
-            }
-        }
-    }
-}
-
-/// Restores by the lines of standard input, as `restore_by_lines` does.
 pub fn restore_marked<C: Catalogue>(
     rt: &HostRuntime,
     threads: &(impl Threads + Wait + Sync),
@@ -556,9 +493,39 @@ pub fn restore_marked<C: Catalogue>(
 ) -> io::Result<u8>
     requires few { AreFew given.now.drives }
 {
-    let jobs = OnceCell::new();
-    let input = with_prompt(rt, GREETING, rt.reader());
-    let helped = with_help(rt, catalogue, given, &jobs, input);
-    let mut reader = BufReader::new(rt.alloc(), helped)?;
-    restore_by_lines(rt, threads, catalogue, given, &mut reader)
+    match gauge_of(rt, given.volumes, given.progress, given.log) {
+        Ok(gauge) => restore_told(rt, threads, catalogue, &gauge, given),
+        Err(error) => refuse_log(rt, given.log, error),
+    }
+}
+
+/// Restores as `restore_marked`, with what watches the restore.
+fn restore_told<C: Catalogue>(
+    rt: &HostRuntime,
+    threads: &(impl Threads + Wait + Sync),
+    catalogue: &C,
+    gauge: &Gauge<'_>,
+    given: &ConsoleOptions<'_>,
+) -> io::Result<u8>
+    requires few { AreFew given.now.drives }
+{
+    let watch = (rt, gauge);
+    match given.target {
+        Target::Nowhere => restore_into(rt, threads, catalogue, gauge, given),
+        Target::Folder(_) => restore_into(rt, threads, catalogue, gauge, given),
+        Target::TarFile(path) => {
+            let answers = BufWriter::new(rt.alloc(), io::writer(rt))?;
+            match set_up_tar_file(rt, catalogue, given, path) {
+                Ok(setup) => restore_onto(threads, watch, given, setup, answers),
+                Err(fault) => refuse_place(rt, gauge, given.target, fault.number()),
+            }
+        }
+        Target::TarOutput => {
+            let answers = BufWriter::new(rt.alloc(), rt.stderr())?;
+            match set_up_tar_output(rt, catalogue, given) {
+                Ok(setup) => restore_onto(threads, watch, given, setup, answers),
+                Err(fault) => refuse_place(rt, gauge, given.target, fault.number()),
+            }
+        }
+    }
 }

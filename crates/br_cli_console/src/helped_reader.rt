@@ -1,14 +1,13 @@
 //! A reader that answers `help` and `dir` itself.
 
 use crate::help_text::HELP;
-use crate::loaded_jobs::{DirFault, Jobs};
 use crate::local_command::{LocalCommand, asked_of, without_feed};
 use crate::working_folder::ConsoleFolder;
-use br_cli_common::{ConsoleOptions, is_attended};
-use br_keeper::Catalogue;
+use br_choose::ChooseFault;
+use br_cli_common::is_attended;
 use br_mark::Command;
+use br_plan::JobSelection;
 use std::alloc::AllocError;
-use std::cell::OnceCell;
 use std::io::{self, Read, Write};
 
 /// The folder of the console, as far as it was followed.
@@ -22,12 +21,10 @@ enum Way<'j> {
 /// A reader of the lines of a console session. If an operator attends, it takes out the lines
 /// `help` and `dir` and answers them on standard error. A terminal gives one line to each read.
 #[derive(Drop)]
-pub struct Helped<'j, 'r, C, I> {
+pub struct Helped<'a, 'j, 'r, I> {
     rt: &'r HostRuntime,
-    catalogue: &'j C,
-    given: &'j ConsoleOptions<'j>,
-    /// The jobs of the session, after they were first needed.
-    jobs: &'j OnceCell<Jobs>,
+    /// The jobs that the session is over.
+    asked: &'a JobSelection<'j>,
     input: I,
     is_attended: bool,
     /// True if the next read begins a line.
@@ -36,19 +33,14 @@ pub struct Helped<'j, 'r, C, I> {
 }
 
 /// Returns the reader, which answers `help` and `dir` if standard input and standard error are terminals.
-/// The jobs are loaded into the cell at the first `dir`.
-pub fn with_help<'j, 'r, C: Catalogue, I: Read>(
+pub fn with_help<'a, 'j, 'r, I: Read>(
     rt: &'r HostRuntime,
-    catalogue: &'j C,
-    given: &'j ConsoleOptions<'j>,
-    jobs: &'j OnceCell<Jobs>,
+    asked: &'a JobSelection<'j>,
     input: I,
-) -> Helped<'j, 'r, C, I> {
+) -> Helped<'a, 'j, 'r, I> {
     Helped {
         rt,
-        catalogue,
-        given,
-        jobs,
+        asked,
         input,
         is_attended: is_attended(rt),
         is_at_start: true,
@@ -56,8 +48,8 @@ pub fn with_help<'j, 'r, C: Catalogue, I: Read>(
     }
 }
 
-impl<'j, C: Catalogue, I: Read> Helped<'j, '_, C, I> {
-    /// Notes a line that is a `cd`.
+impl<'j, I: Read> Helped<'_, 'j, '_, I> {
+    /// Notes where a line leads, if it is a `cd`.
     fn note(&mut self, line: &[u8]) -> Result<(), AllocError> {
         let Ok(command) = Command::read(self.rt.alloc(), line) else {
             return Ok(());
@@ -71,13 +63,9 @@ impl<'j, C: Catalogue, I: Read> Helped<'j, '_, C, I> {
         Ok(())
     }
 
-    /// Returns the console in the folder to which the noted lines lead.
-    fn follow(&self, commands: &[Command]) -> Result<ConsoleFolder<'j>, DirFault> {
-        let (rt, catalogue, given) = (self.rt, self.catalogue, self.given);
-        let jobs = self
-            .jobs
-            .get_or_try_init(|| Jobs::load(rt, catalogue, given))?;
-        let mut place = ConsoleFolder::new(rt.alloc(), jobs)?;
+    /// Returns where the noted lines lead.
+    fn follow(&self, commands: &[Command]) -> Result<ConsoleFolder<'j>, ChooseFault> {
+        let mut place = ConsoleFolder::new(self.rt.alloc(), self.asked)?;
         for command in commands {
             place.follow(command);
         }
@@ -85,7 +73,7 @@ impl<'j, C: Catalogue, I: Read> Helped<'j, '_, C, I> {
     }
 
     /// Returns the lines of the names in the folder.
-    fn list(&mut self) -> Result<Vec<u8>, DirFault> {
+    fn list(&mut self) -> Result<Vec<u8>, ChooseFault> {
         if let Way::Noted(commands) = &self.way {
             let place = self.follow(commands)?;
             self.way = Way::Followed(place);
@@ -124,7 +112,7 @@ impl<'j, C: Catalogue, I: Read> Helped<'j, '_, C, I> {
     }
 }
 
-impl<C: Catalogue, I: Read> Read for Helped<'_, '_, C, I> {
+impl<I: Read> Read for Helped<'_, '_, '_, I> {
     fn read(&mut self, buf: &mut [u8]) -> io::Result<usize> {
         for _ in 0..u64::MAX {
             let len = self.input.read(buf)?;

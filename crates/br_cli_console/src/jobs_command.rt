@@ -4,7 +4,7 @@ ghost use Rattle.br_keeper.specs.Catalogue.{AreJobs};
 use crate::time_zone::SystemZones;
 use br_cli_common::{CLEAN, Clock, JobsOptions, is_shown, refuse_start};
 use br_history::History;
-use br_jobs::{Filter, Zones, marked_lines_in, unmarked_lines_in};
+use br_jobs::{Filter, Zones, list_jobs, marked_lines};
 use br_keeper::{Catalogue, CatalogueFault};
 use br_plan::{BadMoment, read_moment};
 use std::fs;
@@ -24,7 +24,7 @@ fn filter_of<'a>(given: &JobsOptions<'a>) -> Result<Filter<'a>, BadMoment> {
 }
 
 /// Loads the jobs in the file of a catalogue, if the file is there.
-fn jobs_in<C: Catalogue>(
+pub(crate) fn jobs_in<C: Catalogue>(
     rt: &HostRuntime,
     catalogue: &C,
     db: &str,
@@ -75,14 +75,14 @@ fn print_jobs(
 ) -> io::Result<u8>
     ensures status { IfOk result (λ status. (status ≡ 0) ⊎ (status ≡ 1)) }
 {
-    match marked_lines_in(rt.alloc(), history, filter, zones) {
+    match marked_lines(rt.alloc(), history, filter, zones) {
         Ok(text) => {
             print_lines(rt, &text)?;
             tell_if_none(rt, &text, filter)?;
             Ok(CLEAN)
         }
         Err(fault) => {
-            let text = unmarked_lines_in(rt.alloc(), history, filter, zones)?;
+            let text = list_jobs(rt.alloc(), history.jobs(), filter, zones, &[])?;
             print_lines(rt, &text)?;
             refuse_start(rt, fault.number())
         }

@@ -14,18 +14,15 @@ mod dir_lines;
 mod help_text;
 mod helped_reader;
 mod jobs_command;
-mod loaded_jobs;
 mod local_command;
 mod time_zone;
 mod working_folder;
 
 pub use chosen_jobs::tell_chosen;
 pub use console_command::{
-    ConsoleJobs, ConsoleStartFault, console_ending, restore_by_lines, restore_marked,
-    set_up_console,
+    ConsoleJobs, ConsoleStartFault, console_ending, restore_marked, set_up_console,
 };
 pub use dir_lines::{Named, push_name};
 pub use helped_reader::{Helped, with_help};
 pub use jobs_command::list;
-pub use loaded_jobs::{DirFault, Jobs};
 pub use local_command::{LocalCommand, asked_of};

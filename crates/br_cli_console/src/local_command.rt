@@ -4,8 +4,8 @@ ghost use Rattle.br_cli_console.specs.LocalCommands.{asked_by, asked_of};
 
 use br_mark::trimmed;
 
-/// The request of a line.
-#[derive(Clone, Copy, Debug, PartialEq, Eq)]
+/// What a line asks for.
+#[derive(Clone, Copy)]
 pub enum LocalCommand {
     /// The commands of the console.
     Help,

@@ -1,11 +1,11 @@
 //! The folder that a console is in, and the names in it.
 
 use crate::dir_lines::{Named, push_name};
-use crate::loaded_jobs::{DirFault, Jobs};
 use br_attr::Stat;
-use br_choose::choose;
+use br_choose::ChooseFault;
 use br_history::{FileRow, JobRows};
 use br_mark::{Answer, Command, Console};
+use br_plan::JobSelection;
 use br_tree::Tree;
 use br_types::{FileIndex, Path, unescape};
 use br_view::{Entry, View};
@@ -88,10 +88,11 @@ pub(crate) struct ConsoleFolder<'h> {
 
 impl<'h> ConsoleFolder<'h> {
     /// Begins at `/`, in the view of the chosen jobs.
-    pub(crate) fn new(alloc: Global, jobs: &'h Jobs) -> Result<ConsoleFolder<'h>, DirFault> {
-        let request = &jobs.request;
-        let (client, fileset) = (&request.client, &request.fileset);
-        let chosen = choose(alloc, &jobs.history, client, fileset, request.moment)?;
+    pub(crate) fn new(
+        alloc: Global,
+        asked: &JobSelection<'h>,
+    ) -> Result<ConsoleFolder<'h>, ChooseFault> {
+        let chosen = asked.jobs(alloc)?;
         let view = View::build(alloc, &chosen)?;
         let moments = moments_of(alloc, &chosen, view.entries())?;
         let tree = Tree::build(alloc, view)?;

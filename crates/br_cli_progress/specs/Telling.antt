@@ -2,7 +2,7 @@
 use Rattle.std.specs.Prelude.{ℕ, ◌==◌, List, [], ◌++◌, ◌∷◌, codes, decimal, if◌then◌else◌}
 use Rattle.br_model.specs.Name.{FileKey}
 use Rattle.br_model.specs.Text.{escaped, line}
-use Rattle.br_cli_progress.specs.declared.progress_counts.Count.{Count}
+use Rattle.br_cli_progress.specs.declared.progress_counts.ProgressCounts.{ProgressCounts}
 
 -- the line of a file that was put
 abbrev pub put_line : List ℕ → List ℕ
@@ -29,7 +29,7 @@ abbrev pub put_of : ℕ → ℕ → List ℕ
 put_of put files = decimal put ++ codes " of " ++ decimal files ++ codes " files were put"
 
 -- the line about what became of the files
-abbrev pub count_line : Count → List ℕ
+abbrev pub count_line : ProgressCounts → List ℕ
 count_line count = line (put_of count.put count.files ++ noted_text older_front count.older ++ noted_text lost_front count.lost)
 
 -- session and index of a file

@@ -2,7 +2,7 @@
 
 use crate::expecting::len_of_volumes;
 use crate::log::Log;
-use crate::progress_counts::Count;
+use crate::progress_counts::ProgressCounts;
 use crate::progress_line::{Standing, seconds_left};
 use br_bsr::Bootstrap;
 use std::alloc::Global;
@@ -124,11 +124,11 @@ impl<'r> Gauge<'r> {
     }
 
     /// Returns what became of the files, once files are put.
-    pub(crate) fn count(&self) -> Option<Count> {
+    pub(crate) fn count(&self) -> Option<ProgressCounts> {
         if !self.is_putting.load(Ordering::SeqCst) {
             return None;
         }
-        Some(Count {
+        Some(ProgressCounts {
             put: self.put.load(Ordering::SeqCst),
             files: self.files.load(Ordering::SeqCst),
             older: self.older.load(Ordering::SeqCst),

@@ -13,12 +13,12 @@ const TOLD_LEN: usize = 8;
 
 /// An outcome that is no file, and the stream that is not supported.
 #[derive(Clone, Copy)]
-struct Told {
+struct PassedFault {
     key: FileKey,
     stream: Option<u32>,
 }
 
-impl Told {
+impl PassedFault {
     /// Appends its key, and its stream if it has one.
     fn push(&self, text: &mut Vec<u8>) -> Result<(), AllocError> {
         push_key(text, self.key)?;
@@ -44,18 +44,18 @@ pub fn push_key(text: &mut Vec<u8>, key: FileKey) -> Result<(), AllocError>
 
 /// The outcomes of one number.
 #[derive(Drop)]
-struct Kind {
+struct FaultTally {
     number: u32,
     count: u64,
     /// The first of them.
-    told: Vec<Told>,
+    told: Vec<PassedFault>,
     /// The keys of all of them, except those for which memory ran out.
     keys: Vec<FileKey>,
 }
 
-impl Kind {
+impl FaultTally {
     /// Notes an outcome. It is counted even if memory runs out for its key.
-    fn note(&mut self, told: Told) -> Result<(), AllocError> {
+    fn note(&mut self, told: PassedFault) -> Result<(), AllocError> {
         self.count = self.count.saturating_add(1);
         self.keys.push(told.key)?;
         if self.told.len() < TOLD_LEN {
@@ -99,7 +99,7 @@ impl Kind {
 /// of all.
 #[derive(Drop)]
 pub struct Faults {
-    kinds: Vec<Kind>,
+    kinds: Vec<FaultTally>,
 }
 
 impl Faults {
@@ -112,7 +112,7 @@ impl Faults {
 
     /// Notes an outcome that is no file. It is counted even if memory runs out for its key.
     pub(crate) fn note(&mut self, alloc: Global, key: FileKey, why: Why) -> Result<(), AllocError> {
-        let told = Told {
+        let told = PassedFault {
             key,
             stream: why.stream,
         };
@@ -121,7 +121,7 @@ impl Faults {
                 return kind.note(told);
             }
         }
-        self.kinds.push(Kind {
+        self.kinds.push(FaultTally {
             number: why.number,
             count: 0,
             told: Vec::new(alloc),

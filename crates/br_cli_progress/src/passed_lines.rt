@@ -40,7 +40,7 @@ impl LineStart {
 /// What is noted of the lines that pass a writer: replies of the console, a bootstrap and the
 /// manifest.
 #[derive(Drop)]
-pub(crate) struct Lines {
+pub(crate) struct PassedLines {
     start: LineStart,
     /// The outcomes that are no files.
     pub(crate) faults: Faults,
@@ -61,10 +61,10 @@ fn add_key(keys: &mut Option<Vec<FileKey>>, key: FileKey) {
     }
 }
 
-impl Lines {
+impl PassedLines {
     /// Creates the notes before the first line.
-    pub(crate) fn new(alloc: Global) -> Lines {
-        Lines {
+    pub(crate) fn new(alloc: Global) -> PassedLines {
+        PassedLines {
             start: LineStart {
                 bytes: [0; START_LEN],
                 len: 0,

@@ -8,7 +8,7 @@ use std::alloc::{AllocError, Global};
 
 /// The numbers of files of a restore, by what became of them.
 #[derive(Clone, Copy)]
-pub(crate) struct Count {
+pub(crate) struct ProgressCounts {
     /// Those that were put.
     pub(crate) put: u64,
     /// Those of the manifest, except the lost ones.
@@ -75,7 +75,7 @@ fn push_put_of(text: &mut Vec<u8>, put: u64, files: u64) -> Result<(), AllocErro
 }
 
 /// Appends the line about what became of the files.
-pub(crate) fn push_count(text: &mut Vec<u8>, count: Count) -> Result<(), AllocError>
+pub(crate) fn push_count(text: &mut Vec<u8>, count: ProgressCounts) -> Result<(), AllocError>
     ensures { OnOk result (text.new.items ≡ text.old.items ++ count_line count) }
 {
     push_put_of(text, count.put, count.files)?;

@@ -8,8 +8,8 @@ const MIB: u64 = 1_048_576;
 /// The number of bytes of a GiB.
 const GIB: u64 = 1_073_741_824;
 
-/// The progress of a restore.
-#[derive(Clone, Copy, PartialEq, Eq)]
+/// How far a restore is.
+#[derive(Clone, Copy)]
 pub struct Standing {
     /// The number of bytes of the volumes that were passed. Bytes that are read again are counted
     /// again.

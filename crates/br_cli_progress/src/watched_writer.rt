@@ -3,7 +3,7 @@ ghost use Rattle.std.specs.Prelude.{◌≡◌};
 
 use crate::gauge::Gauge;
 use crate::passed_faults::Faults;
-use crate::passed_lines::Lines;
+use crate::passed_lines::PassedLines;
 use br_bsr::{Bootstrap, read_bootstrap};
 use br_types::FileKey;
 use std::io::{self, Write};
@@ -19,7 +19,7 @@ const VOLUME: &[u8] = b"Volume=\"";
 pub struct WatchedWriter<'g, 'r, W> {
     pub inner: W,
     gauge: &'g Gauge<'r>,
-    lines: Lines,
+    lines: PassedLines,
     /// The last bootstrap that was written in one call.
     plan: Option<Bootstrap>,
 }
@@ -32,7 +32,7 @@ impl<'g, 'r, W> WatchedWriter<'g, 'r, W> {
         WatchedWriter {
             inner,
             gauge,
-            lines: Lines::new(gauge.alloc()),
+            lines: PassedLines::new(gauge.alloc()),
             plan: None,
         }
     }

@@ -4,7 +4,7 @@ use Rattle.std.specs.Io.KnownBytes.{Keeps}
 use Rattle.br_model.specs.File.{Item}
 use Rattle.br_sink_tar.specs.Stream.{HoldsCut, HoldsTar}
 use Rattle.br_cli_target.specs.TarEnding.{EndsBy, HoldsBy, IsClosed, IsEnded, IsFlushed, IsShown, not_flushed}
-use Rattle.br_cli_target.specs.declared.target_tar.Extent.TheVariants as extents
+use Rattle.br_cli_target.specs.declared.target_tar.PutExtent.TheVariants as extents
 use Rattle.br_cli_target.specs.declared.target_tar.TarEnd.{TarEnd}
 use Rattle.br_cli_target.specs.declared.target_tar.TarEnd.TheVariants.{Whole, Cut, Refused}
 

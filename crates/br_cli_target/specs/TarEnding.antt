@@ -6,8 +6,8 @@ use Rattle.br_sink.specs.Fault.{fault_number}
 use Rattle.br_sink.specs.declared.fault.SinkFault.TheVariants.{Fault}
 use Rattle.br_cli_progress.specs.declared.watched_sink.WatchedSink.{WatchedSink}
 use Rattle.br_sink_tar.specs.Stream.{HoldsCut, HoldsTar, InTar, told}
-use Rattle.br_cli_target.specs.declared.target_tar.Extent.{Extent}
-use Rattle.br_cli_target.specs.declared.target_tar.Extent.TheVariants as extents
+use Rattle.br_cli_target.specs.declared.target_tar.PutExtent.{PutExtent}
+use Rattle.br_cli_target.specs.declared.target_tar.PutExtent.TheVariants as extents
 use Rattle.br_cli_target.specs.declared.target_tar.TarEnd.{TarEnd}
 use Rattle.br_cli_target.specs.declared.target_tar.TarEnd.TheVariants.{Whole, Cut, Refused}
 use Rattle.br_cli_target.specs.declared.target_tar.TarFault.{TarFault}
@@ -56,19 +56,19 @@ IsClosed left_out Cut = ⊥
 IsClosed left_out (Refused why) = ⊤
 
 -- a stream without all of the files has no end
-abbrev pub EndsBy : Extent → ℕ → TarEnd → Type 0
+abbrev pub EndsBy : PutExtent → ℕ → TarEnd → Type 0
 EndsBy extents.All left_out end = IsClosed left_out end
 EndsBy extents.Part left_out end = end ≡ Cut
 
 -- the stream of a sink has an end exactly if all files were put and the end could be written
-abbrev pub IsEnded : Extent → TarEnd → Type 0
+abbrev pub IsEnded : PutExtent → TarEnd → Type 0
 IsEnded extents.All (Whole n) = ⊤
 IsEnded extents.All Cut = ⊥
 IsEnded extents.All (Refused why) = ⊤
 IsEnded extents.Part end = end ≡ Cut
 
 -- the same, and what its writer holds, if there is a sink
-abbrev pub StreamHolds : Extent → Option (Option (List Item)) → TarEnd → Option (Option (List ℕ)) → Type 0
+abbrev pub StreamHolds : PutExtent → Option (Option (List Item)) → TarEnd → Option (Option (List ℕ)) → Type 0
 StreamHolds extent None end None = ⊤
 StreamHolds extent None end (Some stream) = ⊥
 StreamHolds extent (Some told) end None = ⊥

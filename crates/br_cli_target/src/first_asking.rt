@@ -2,13 +2,12 @@
 ghost use Rattle.std.specs.Prelude.{◌≡◌, ◌++◌, ◌≤◌, drop, find, length, map, IfOk, OnOk};
 ghost use Rattle.std.specs.Int.{is_in_range};
 ghost use Rattle.std.specs.Option.{option_copied};
-ghost use Rattle.br_piece.specs.Missing as missing;
 ghost use Rattle.br_cli_target.specs.FirstAsking as model;
 ghost use Rattle.br_cli_target.specs.FirstAsking.{asked_by, first_asked, reaches_from, shown};
 ghost use Rattle.br_cli_target.specs.NarrowedGroups.{asks_for};
 
-use crate::narrowed_groups::admits;
 use br_bsr::{Group, Range};
+use br_piece::admits_session;
 use br_types::{FileKey, SessionKey};
 use std::alloc::{AllocError, Global};
 
@@ -20,14 +19,6 @@ const ALL: Range = Range {
 
 /// A range of indexes, and the group that asks for it.
 type AskingGroup<'g> = (Range, &'g Group);
-
-/// Returns true if the group admits the number and the time of the session.
-fn admits_session(group: &Group, session: SessionKey) -> bool
-    ensures { result ≡ missing.admits_session group.now session }
-{
-    admits(&group.session_ids, u64::from(session.id))
-        && admits(&group.session_times, u64::from(session.time))
-}
 
 /// Appends ranges that the group asks for.
 fn push_ranges<'g>(

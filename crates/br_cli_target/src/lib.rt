@@ -26,11 +26,11 @@ pub use advice_lines::{push_absent, push_older, push_origin};
 pub use ending::{BAD_STREAM, Ending};
 pub use host_restore::{restore_over, with_watched_drives, with_watched_sink};
 pub use origin::{Origin, origins};
-pub use target_folder::{HostSink, LeavingSink, ResumingSink, folder_of, leaving_over, sink_over};
+pub use target_folder::{LeavingSink, ResumingSink, folder_of, leaving_over, resuming_over};
 pub use target_tar::{
-    Channel, Extent, Streamed, TarEnd, TarFault, add_tar_end, end_stream, tar_into, tar_onto,
+    Channel, PutExtent, Streamed, TarEnd, TarFault, add_tar_end, end_stream, tar_into, tar_onto,
 };
-pub use told_outcomes::{Told, advise, say_volumes, tell_outcomes};
+pub use told_outcomes::{ToldOutcomes, advise, say_volumes, tell_outcomes};
 pub use told_target::{
     lacks_volumes, log_fault, refuse_place, say_conflicts, say_files, say_nowhere, say_place,
     say_stop, tell_others,

@@ -1,12 +1,8 @@
 //! The groups of a bootstrap that ask for some files, each narrowed to attributes.
-ghost use Rattle.std.specs.Prelude.{◌≡◌, ◌++◌, ◌==◌, not, find, flat_map, IfOk, OnOk};
-ghost use Rattle.std.specs.Int.{is_in_range};
-ghost use Rattle.std.specs.List.{list_any};
-ghost use Rattle.std.specs.Option.{option_copied};
+ghost use Rattle.std.specs.Prelude.{◌≡◌, ◌++◌, flat_map, IfOk, OnOk};
 ghost use Rattle.std.specs.List.Sorted.{IsSorted};
 ghost use Rattle.br_model.specs.Name.{key_cmp};
-ghost use Rattle.br_model.specs.Bootstrap.{admits as admits_number};
-ghost use Rattle.br_cli_target.specs.NarrowedGroups.{asks_for as is_asked, asks_for_any as is_any_asked, narrow, narrow_to, one};
+ghost use Rattle.br_cli_target.specs.NarrowedGroups.{asks_for_any as is_any_asked, narrow, narrow_to, one};
 
 use br_bsr::{Group, Range};
 use br_piece::got_of;
@@ -16,20 +12,7 @@ use std::alloc::{AllocError, Global};
 /// The stream of a file's attributes.
 const ATTRIBUTES: u64 = 1;
 
-fn contains_any(ranges: &[Range], number: u64) -> bool
-    ensures { result ≡ list_any (λ r. is_in_range r.low r.high number) ranges.now }
-{
-    ranges.iter().any(|range| range.contains(number))
-}
-
-/// Returns true if the ranges admit the number: one of them contains it, or there are no ranges.
-pub(crate) fn admits(ranges: &[Range], number: u64) -> bool
-    ensures { result ≡ admits_number ranges.now number }
-{
-    ranges.is_empty() || contains_any(ranges, number)
-}
-
-/// Returns true if the group asks for one of n files. Takes time log n if it names one session.
+/// Returns if the group asks for one of the files, in time log n beside that of these if the group names one session.
 fn asks_for_any(alloc: Global, group: &Group, keys: &[FileKey]) -> Result<bool, AllocError>
     requires { IsSorted key_cmp keys.now }
     ensures { IfOk result (λ b. b ≡ is_any_asked keys.now group.now) }

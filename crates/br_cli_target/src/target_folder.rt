@@ -6,11 +6,8 @@ use br_cli_common::Target;
 use br_cli_progress::{Gauge, WatchedSink};
 use br_fs::HostDisk;
 use br_sink::Leaving;
-use br_sink_folder::{FolderFault, FolderSink, Resuming};
+use br_sink_folder::{FolderFault, Resuming};
 use br_types::{Start, Stops};
-
-/// A sink over a folder of the system.
-pub type HostSink<'r> = FolderSink<HostDisk<&'r HostRuntime>>;
 
 /// A sink over a folder of the system, which may hold files already.
 pub type ResumingSink<'r> = Resuming<HostDisk<&'r HostRuntime>>;
@@ -29,23 +26,9 @@ pub fn folder_of(target: Target<'_>) -> Option<&str>
     }
 }
 
-/// Returns the sink over the folder to deliver into, if there is one.
-pub fn sink_over<'r>(
-    rt: &'r HostRuntime,
-    into: Option<&str>,
-) -> Result<Option<HostSink<'r>>, FolderFault>
-    ensures asked { IfOk result (λ sink. option_map (λ s. s.path) sink ≡ option_map (λ f. f.now) into.entry) }
-{
-    let Some(folder) = into else {
-        return Ok(None);
-    };
-    let maker = HostDisk::new(rt.alloc(), rt);
-    Ok(Some(FolderSink::new(rt.alloc(), maker, folder)?))
-}
-
 /// Returns the sink over the folder to deliver into, if there is one. The folder is empty, unless the restore
 /// is resumed.
-fn resuming_over<'r>(
+pub fn resuming_over<'r>(
     rt: &'r HostRuntime,
     start: Start,
     into: Option<&str>,

@@ -21,7 +21,7 @@ use std::io::{BufWriter, Printer, Stderr, Write};
 use thiserror::Error;
 
 /// Why there is no file to write a tar stream into.
-#[derive(Clone, Copy, Debug, PartialEq, Eq, Error)]
+#[derive(Clone, Copy, Debug, Error)]
 pub enum TarFault {
     #[error("out of memory")]
     Memory,
@@ -93,7 +93,7 @@ pub fn tar_into(rt: &HostRuntime, path: &str) -> Result<TarSink<BufWriter<File>>
 
 /// The number of restored files that were put into the sink.
 #[derive(Clone, Copy)]
-pub enum Extent {
+pub enum PutExtent {
     All,
     /// No file was put, or those before a stop.
     Part,
@@ -180,15 +180,15 @@ fn cut_off<W: Flush + Drop>(sink: TarSink<W>) -> (W, TarEnd)
 }
 
 /// Ends the stream of a sink if all files were put, and flushes its writer.
-fn end_of<W: Flush + Drop>(sink: TarSink<W>, extent: Extent) -> (W, TarEnd)
+fn end_of<W: Flush + Drop>(sink: TarSink<W>, extent: PutExtent) -> (W, TarEnd)
     ensures held { HoldsBy (told sink) result.1 (W.contents result.0) }
     ensures ends { EndsBy extent sink.left_out result.1 }
     ensures ended { IsEnded extent result.1 }
     ensures shown { IsShown (W.is_flushed result.0) result.1 }
 {
     match extent {
-        Extent::All => closed(sink),
-        Extent::Part => cut_off(sink),
+        PutExtent::All => closed(sink),
+        PutExtent::Part => cut_off(sink),
     }
 }
 
@@ -196,7 +196,7 @@ fn end_of<W: Flush + Drop>(sink: TarSink<W>, extent: Extent) -> (W, TarEnd)
 /// writer. Returns this writer, and the state of the stream.
 pub fn end_stream<W: Flush + Drop>(
     sink: Option<WatchedSink<'_, '_, TarSink<W>>>,
-    extent: Extent,
+    extent: PutExtent,
 ) -> (Option<W>, TarEnd)
     ensures held { StreamHolds extent (option_map told_inside sink.entry) result.1 (option_map W.contents result.0) }
     ensures ends { IfSome sink.entry (λ s. EndsBy extent s.inner.left_out result.1) }

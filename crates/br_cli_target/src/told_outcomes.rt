@@ -22,7 +22,7 @@ const LINES: usize = 256;
 
 /// What a watcher noted of a restore while it ran.
 #[derive(Drop)]
-pub struct Told<'t> {
+pub struct ToldOutcomes<'t> {
     /// The outcomes that are no files.
     faults: &'t Faults,
     /// The keys of the outcomes, unless memory ran out.
@@ -31,13 +31,13 @@ pub struct Told<'t> {
     bootstrap: Option<&'t Bootstrap>,
 }
 
-impl<'t> Told<'t> {
+impl<'t> ToldOutcomes<'t> {
     /// Returns what a watched writer noted of a restore by this bootstrap, if there was one.
     pub fn by<W>(
         writer: &'t WatchedWriter<'_, '_, W>,
         bootstrap: Option<&'t Bootstrap>,
-    ) -> Told<'t> {
-        Told {
+    ) -> ToldOutcomes<'t> {
+        ToldOutcomes {
             faults: writer.faults(),
             keys: writer.keys(),
             bootstrap,
@@ -45,14 +45,18 @@ impl<'t> Told<'t> {
     }
 
     /// Returns what a watched writer noted of a console session.
-    pub fn of_session<W>(writer: &'t WatchedWriter<'_, '_, W>) -> Told<'t> {
-        Told::by(writer, writer.plan())
+    pub fn of_session<W>(writer: &'t WatchedWriter<'_, '_, W>) -> ToldOutcomes<'t> {
+        ToldOutcomes::by(writer, writer.plan())
     }
 }
 
 /// Returns the origins of the outcomes that are no files. Their attributes are read once more, with
 /// a separate drive.
-fn origins_of(rt: &HostRuntime, volumes: &str, told: &Told<'_>) -> Result<Vec<Origin>, AllocError> {
+fn origins_of(
+    rt: &HostRuntime,
+    volumes: &str,
+    told: &ToldOutcomes<'_>,
+) -> Result<Vec<Origin>, AllocError> {
     let keys = told.faults.keys(rt.alloc())?;
     let Some(bootstrap) = told.bootstrap else {
         return Ok(Vec::new(rt.alloc()));
@@ -95,7 +99,7 @@ pub fn tell_outcomes(
     rt: &HostRuntime,
     gauge: &Gauge<'_>,
     volumes: &str,
-    told: &Told<'_>,
+    told: &ToldOutcomes<'_>,
 ) -> io::Result<()> {
     if !gauge.is_watching() || told.faults.are_none() {
         return Ok(());
@@ -108,7 +112,7 @@ pub fn tell_outcomes(
 }
 
 /// Returns the line with the number of indexes without an outcome, if there are any.
-fn absent_lines(rt: &HostRuntime, told: &Told<'_>) -> Result<Vec<u8>, AllocError> {
+fn absent_lines(rt: &HostRuntime, told: &ToldOutcomes<'_>) -> Result<Vec<u8>, AllocError> {
     let mut text = Vec::new(rt.alloc());
     if let (Some(keys), Some(bootstrap)) = (told.keys, told.bootstrap) {
         let keys = Vec::from_slice(rt.alloc(), keys)?;
@@ -152,7 +156,7 @@ pub fn advise(
     wanted: Wanted,
     outcomes: &[(FileKey, Outcome)],
     conflicts: u64,
-    told: &Told<'_>,
+    told: &ToldOutcomes<'_>,
 ) -> io::Result<()> {
     if !gauge.is_watching() {
         return Ok(());
@@ -200,7 +204,7 @@ pub fn say_volumes(
     rt: &HostRuntime,
     gauge: &Gauge<'_>,
     volumes: &str,
-    told: &Told<'_>,
+    told: &ToldOutcomes<'_>,
 ) -> io::Result<()> {
     if !gauge.is_watching() {
         return Ok(());

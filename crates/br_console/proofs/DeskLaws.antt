@@ -1,6 +1,6 @@
 -- What a keeper does leaves its list the one that its session reads.
 use Rattle.std.proofs.Common.{◌≡◌, ◌∙◌, ap, sym, ℕ, inl, inr, List, [], ◌∷◌, Option, Some, None, Result, Ok, Err}
-use Rattle.std.specs.Prelude.{MatchOption}
+use Rattle.std.specs.Prelude.{IfErr, IfOk, MatchOption}
 use Rattle.std.specs.List.{AllByRecursion}
 use Rattle.br_model.specs.Volume.{Volume}
 use Rattle.br_model.specs.Job.{JobRows}
@@ -12,6 +12,8 @@ use Rattle.br_keeper.proofs.BeginningLaws.{prefix_trans}
 use Rattle.br_keeper.specs.declared.fault.KeeperFault.{KeeperFault}
 use Rattle.br_keeper.specs.declared.fault.KeeperFault.TheVariants.{Memory, DuplicateJob, DuplicateSession, BadRow, RetiredVolume, Volume as VolumeFails, Store, StoredNotPublished, BadCatalogue}
 use Rattle.br_keeper.specs.Committing.{Commits}
+use Rattle.br_keeper.specs.Outcomes.{AppendsFrontAndRetires, Backing, IsEarly, OnlyAppends, Refuses, StoresAndPublishes, StoresUnpublished}
+use Rattle.br_keeper.proofs.OutcomeLaws.{commits_of}
 use Rattle.br_keeper.specs.Keeping.{Keeping, shelf_of}
 use Rattle.br_keeper.specs.Writing.{Shelf}
 use Rattle.br_console.specs.ScriptKeeper.{CommitsAt, EndsJob, HasLearned, IsOwn, SeesMore}
@@ -57,10 +59,21 @@ module _ {C W : Type 0} (inserts refuses : JobRows → C → C → Type 0) where
   commit_keeps_book shelf c old new (Err BadCatalogue) h = ap (λ (p : Publishing). p.book) h.1
 
   -- after a commit the session, if it stays, reads the list of the keeper
-  pub own_after : (shelf : Keeping C W → Shelf) (c : ToCommit) (old new : Keeping C W) (r : Result Beginning KeeperFault) (session : Option Known)
+  own_if_committed : (shelf : Keeping C W → Shelf) (c : ToCommit) (old new : Keeping C W) (r : Result Beginning KeeperFault) (session : Option Known)
       → IsOwn session old → Commits inserts refuses shelf c old new r → IsOwn session new
-  own_after shelf c old new r None own h = own
-  own_after shelf c old new r (Some s) own h = own ∙ sym (commit_keeps_book shelf c old new r h)
+  own_if_committed shelf c old new r None own h = own
+  own_if_committed shelf c old new r (Some s) own h = own ∙ sym (commit_keeps_book shelf c old new r h)
+
+  module _ (shelf : Keeping C W → Shelf) where
+    abbrev pub backed : Backing C W
+    backed = record { inserts = inserts; refuses = refuses; shelf = shelf }
+
+    pub own_after : (c : ToCommit) (old new : Keeping C W) (r : Result Beginning KeeperFault) (session : Option Known)
+        → IsOwn session old → IfOk r (StoresAndPublishes backed c old new) → (r ≡ Err StoredNotPublished → StoresUnpublished backed c old new)
+        → (r ≡ Err Store → OnlyAppends backed c old new) → (r ≡ Err VolumeFails → AppendsFrontAndRetires backed c old new)
+        → IfErr r (λ why. IsEarly why → Refuses backed c old new why) → IsOwn session new
+    own_after c old new r session own stored waits blocks torn refused =
+        own_if_committed shelf c old new r session own (commits_of inserts refuses shelf c old new r stored waits blocks torn refused)
 
   -- what becomes of a job that ends is the same whatever error there could be, if there is none
   pub ends_clean : (E F : Type 0) (shelf : Keeping C W → Shelf) (place : ℕ) (old new : Keeping C W) (session : Option Known) (before after : Option (List ℕ))

@@ -44,8 +44,8 @@ use Rattle.br_console.specs.Talking.{are_answered, SessionOver, LeavesOver}
 use Rattle.br_console.specs.Running.{opening, begun, with_files, run_from, console_run, Answer, BecomesFault, Begins, BeginsOver, RefusesRun, RestoresOver, RestoresPlan, RunsOver, StopsAt, TellsOver, WritesPlan}
 use Rattle.br_console.specs.declared.console_fault.ConsoleFault.{ConsoleFault}
 use Rattle.br_console.specs.declared.console_fault.ConsoleFault.TheVariants as fault
-use Rattle.br_console.specs.declared.ending.Lines.{Lines}
-use Rattle.br_console.specs.declared.ending.Session.{Session}
+use Rattle.br_console.specs.declared.ending.LineVerdict.{LineVerdict}
+use Rattle.br_console.specs.declared.ending.SessionOutcome.{SessionOutcome}
 use Rattle.br_console.specs.declared.ending.End.TheVariants.{Done, Quit}
 
 -- ---- the choice and the session
@@ -91,12 +91,12 @@ pub record IsDialogue (lines : List (List ℕ)) (before after : Option (List ℕ
   pub marks_are : marks ≡ marks_at_done s.view s.state lines
 
 -- if the reader reports its bytes, the dialogue of their lines with the console was written
-abbrev pub MarksOver : Option (List ℕ) → Option (List ℕ) → Option (List ℕ) → Situation → Lines → Option (List (List ℕ)) → Type 0
+abbrev pub MarksOver : Option (List ℕ) → Option (List ℕ) → Option (List ℕ) → Situation → LineVerdict → Option (List (List ℕ)) → Type 0
 MarksOver (Some text) before after s lines marks = IsDialogue (console_lines text) before after s (are_accepted lines) marks
 MarksOver None before after s lines marks = ⊤
 
 -- a session that ended by `done`, and the marks of its console
-pub marked_done : (known left before after : Option (List ℕ)) (s t : Situation) (session : Session) (paths : List (List ℕ)) → SessionOver known left before after s (Ok session)
+pub marked_done : (known left before after : Option (List ℕ)) (s t : Situation) (session : SessionOutcome) (paths : List (List ℕ)) → SessionOver known left before after s (Ok session)
     → LeavesOver known s t (Ok session) → is_done session.end ≡ true → paths ≡ t.state.marked → MarksOver known before after s session.lines (Some paths)
 marked_done None left before after s t session paths talked leaves done are = tt
 marked_done (Some text) left before after s t session paths talked leaves done are = record {
@@ -106,7 +106,7 @@ marked_done (Some text) left before after s t session paths talked leaves done a
 }
 
 -- a session that ended otherwise
-pub marked_undone : (known left before after : Option (List ℕ)) (s t : Situation) (session : Session) → SessionOver known left before after s (Ok session)
+pub marked_undone : (known left before after : Option (List ℕ)) (s t : Situation) (session : SessionOutcome) → SessionOver known left before after s (Ok session)
     → LeavesOver known s t (Ok session) → is_done session.end ≡ false → MarksOver known before after s session.lines None
 marked_undone None left before after s t session talked leaves undone = tt
 marked_undone (Some text) left before after s t session talked leaves undone = record {
@@ -138,14 +138,14 @@ begins_free (Some text) before after history q (fault.Io why) free = tt
 begins_free (Some text) before after history q (fault.NoEnd turns) free = tt
 
 -- the dialogue did not end by `done`
-pub begins_undone : (known before after : Option (List ℕ)) (history : List JobRows) (q : Request) (s : Situation) (lines : Lines) → opening history q ≡ Ok s
+pub begins_undone : (known before after : Option (List ℕ)) (history : List JobRows) (q : Request) (s : Situation) (lines : LineVerdict) → opening history q ≡ Ok s
     → MarksOver known before after s lines None → BeginsOver known before after history q (Ok (lines, None))
 unfolding begun
 begins_undone None before after history q s lines opened talked = tt
 begins_undone (Some text) before after history q s lines opened talked = rw (opened, ← talked.marks_are) (sym talked.clean_is, refl, talked.written)
 
 -- it did, and the plan was not made
-pub begins_unplanned : (known before now after : Option (List ℕ)) (history : List JobRows) (q : Request) (s : Situation) (lines : Lines) (marks : List (List ℕ)) (why : ConsoleFault)
+pub begins_unplanned : (known before now after : Option (List ℕ)) (history : List JobRows) (q : Request) (s : Situation) (lines : LineVerdict) (marks : List (List ℕ)) (why : ConsoleFault)
     → opening history q ≡ Ok s → MarksOver known before now s lines (Some marks) → WritesPlan now after (plan_of history q marks) (Err why)
     → BeginsOver known before after history q (Err why)
 unfolding begun
@@ -161,7 +161,7 @@ begins_unplanned (Some text) before now after history q s lines marks (fault.Pla
     go (Some n) h = rw (opened, ← talked.marks_are, h) (refl, Appends-kept before now after (dialogue s.view s.state (console_lines text)) talked.written refused.1)
 
 -- it was made, and its bootstrap written
-pub begins_planned : (known before now after : Option (List ℕ)) (history : List JobRows) (q : Request) (s : Situation) (lines : Lines) (marks : List (List ℕ)) (plan : Plan)
+pub begins_planned : (known before now after : Option (List ℕ)) (history : List JobRows) (q : Request) (s : Situation) (lines : LineVerdict) (marks : List (List ℕ)) (plan : Plan)
     → opening history q ≡ Ok s → MarksOver known before now s lines (Some marks) → WritesPlan now after (plan_of history q marks) (Ok plan)
     → BeginsOver known before after history q (Ok (lines, Some plan))
 unfolding begun
@@ -308,7 +308,7 @@ runs_refused (Some text) earlier later before after history q why begins = λ vo
     by_fault volumes (fault.NoEnd w) h = tt
 
 -- without a plan nothing more
-pub runs_undone : (known : Option (List ℕ)) (earlier later : Told) (before after : Option (List ℕ)) (history : List JobRows) (q : Request) (lines : Lines)
+pub runs_undone : (known : Option (List ℕ)) (earlier later : Told) (before after : Option (List ℕ)) (history : List JobRows) (q : Request) (lines : LineVerdict)
     → BeginsOver known before after history q (Ok (lines, None)) → RunsOver known earlier later before after history q (Ok (record { lines = lines; end = Quit }))
 unfolding console_run
 runs_undone None earlier later before after history q lines begins = tt
@@ -323,7 +323,7 @@ end_is restore.SomeFaults rs h = h
 end_is (restore.Stopped stop) rs h = tt
 
 -- the manifest after the bootstrap
-pub runs_restored : (known : Option (List ℕ)) (earlier later : Told) (before now after : Option (List ℕ)) (had has : InSink) (history : List JobRows) (q : Request) (lines : Lines) (plan : Plan)
+pub runs_restored : (known : Option (List ℕ)) (earlier later : Told) (before now after : Option (List ℕ)) (had has : InSink) (history : List JobRows) (q : Request) (lines : LineVerdict) (plan : Plan)
     (end : RestoreEnd) → BeginsOver known before now history q (Ok (lines, Some plan)) → RestoresPlan earlier later now after had has plan (Ok end)
     → RunsOver known earlier later before after history q (Ok (record { lines = lines; end = Done end }))
 unfolding console_run
@@ -347,7 +347,7 @@ stopped text clean (Err e) why h = (go h, refl)
     go : ◌≡◌ {A = Result (List Restored) Refusal} (Err (OfPiece e)) (Err why) → ◌≡◌ {A = Result Answer Refusal} (Err (OfPiece e)) (Err why)
     go p = cc
 
-pub runs_stopped : (known : Option (List ℕ)) (earlier later : Told) (before now after : Option (List ℕ)) (had has : InSink) (history : List JobRows) (q : Request) (lines : Lines) (plan : Plan)
+pub runs_stopped : (known : Option (List ℕ)) (earlier later : Told) (before now after : Option (List ℕ)) (had has : InSink) (history : List JobRows) (q : Request) (lines : LineVerdict) (plan : Plan)
     (why : ConsoleFault) → BeginsOver known before now history q (Ok (lines, Some plan)) → RestoresPlan earlier later now after had has plan (Err why)
     → RunsOver known earlier later before after history q (Err why)
 unfolding console_run
@@ -381,19 +381,19 @@ tells_refused (Some text) before after history q (fault.Piece why) begins = absu
 tells_refused (Some text) before after history q (fault.Io why) begins = tt
 tells_refused (Some text) before after history q (fault.NoEnd turns) begins = tt
 
-pub tells_undone : (known before after : Option (List ℕ)) (history : List JobRows) (q : Request) (lines : Lines) → BeginsOver known before after history q (Ok (lines, None))
+pub tells_undone : (known before after : Option (List ℕ)) (history : List JobRows) (q : Request) (lines : LineVerdict) → BeginsOver known before after history q (Ok (lines, None))
     → TellsOver known before after history q (Ok (record { lines = lines; end = Quit }))
 tells_undone None before after history q lines begins = tt
 tells_undone (Some text) before after history q lines begins = (begins.0, (begins.1, begins.2))
 
-pub tells_restored : (known : Option (List ℕ)) (earlier later : Told) (before now after : Option (List ℕ)) (had has : InSink) (history : List JobRows) (q : Request) (lines : Lines) (plan : Plan)
+pub tells_restored : (known : Option (List ℕ)) (earlier later : Told) (before now after : Option (List ℕ)) (had has : InSink) (history : List JobRows) (q : Request) (lines : LineVerdict) (plan : Plan)
     (end : RestoreEnd) → BeginsOver known before now history q (Ok (lines, Some plan)) → RestoresPlan earlier later now after had has plan (Ok end)
     → TellsOver known before after history q (Ok (record { lines = lines; end = Done end }))
 tells_restored None earlier later before now after had has history q lines plan end begins made = tt
 tells_restored (Some text) earlier later before now after had has history q lines plan end begins made =
     (begins.0, (plan, made.0, begins.1, made.3.0, Appends-trans before now after (begun history q text).text (manifest made.0) begins.2 made.2))
 
-pub tells_stopped : (known before now after : Option (List ℕ)) (history : List JobRows) (q : Request) (lines : Lines) (plan : Plan) (why : ConsoleFault)
+pub tells_stopped : (known before now after : Option (List ℕ)) (history : List JobRows) (q : Request) (lines : LineVerdict) (plan : Plan) (why : ConsoleFault)
     → BeginsOver known before now history q (Ok (lines, Some plan)) → StopsAt now after why → TellsOver known before after history q (Err why)
 tells_stopped None before now after history q lines plan why begins stops = tt
 tells_stopped (Some text) before now after history q lines plan fault.Memory begins stops = tt
@@ -405,12 +405,12 @@ tells_stopped (Some text) before now after history q lines plan (fault.NoEnd tur
 
 -- ---- the files of a run
 
-pub restores_undone : (known : Option (List ℕ)) (earlier later : Told) (before after : Option (List ℕ)) (history : List JobRows) (q : Request) (lines : Lines)
+pub restores_undone : (known : Option (List ℕ)) (earlier later : Told) (before after : Option (List ℕ)) (history : List JobRows) (q : Request) (lines : LineVerdict)
     → BeginsOver known before after history q (Ok (lines, None)) → RestoresOver known earlier later before after history q (are_accepted lines) None
 restores_undone None earlier later before after history q lines begins = tt
 restores_undone (Some text) earlier later before after history q lines begins = (begins.0, (begins.1, begins.2))
 
-pub restores_files : (known : Option (List ℕ)) (earlier later : Told) (before now after : Option (List ℕ)) (had has : InSink) (history : List JobRows) (q : Request) (lines : Lines) (plan : Plan)
+pub restores_files : (known : Option (List ℕ)) (earlier later : Told) (before now after : Option (List ℕ)) (had has : InSink) (history : List JobRows) (q : Request) (lines : LineVerdict) (plan : Plan)
     (end : RestoreEnd) → BeginsOver known before now history q (Ok (lines, Some plan)) → (made : RestoresPlan earlier later now after had has plan (Ok end))
     → RestoresOver known earlier later before after history q (are_accepted lines) (Some made.0)
 restores_files None earlier later before now after had has history q lines plan end begins made = tt

@@ -15,7 +15,7 @@ use Rattle.br_model.proofs.AnswerLaws.{bind_ok, refuse_ok, ok_is}
 use Rattle.br_mark.specs.Seen.{Situation}
 use Rattle.br_console.specs.Talking.{are_answered, console_after, lines_said, behind_lines, left_unsaid, SessionOver, marks_told, LeavesOver, ReadsLine}
 use Rattle.br_console.specs.ConsoleEnding.{are_accepted, is_done}
-use Rattle.br_console.specs.declared.ending.Session.{Session}
+use Rattle.br_console.specs.declared.ending.SessionOutcome.{SessionOutcome}
 
 -- ---- the first line of a text
 
@@ -320,7 +320,7 @@ one_more (Some text) (Some (x ∷ xs)) later before now next s t u clean after r
     })
 
 -- the lines came to their end
-pub none_left : (known left later before now : Option (List ℕ)) (s t : Situation) (session : Session) (line : List ℕ) (is_line : Bool)
+pub none_left : (known left later before now : Option (List ℕ)) (s t : Situation) (session : SessionOutcome) (line : List ℕ) (is_line : Bool)
     → SoFar known left before now s t (are_accepted session.lines) → ReadsLine left later line is_line → is_line ≡ false → is_done session.end ≡ false
     → SessionOver known later before now s (Ok session) × LeavesOver known s t (Ok session)
 unfolding console_lines dialogue marks_at_done are_answered console_after lines_said behind_lines
@@ -346,7 +346,7 @@ option_of true marks = refl
 option_of false marks = refl
 
 -- a line ended the session
-pub one_ends : (known left later before now next : Option (List ℕ)) (s t u : Situation) (clean : Bool) (session : Session) (r : Result model.Answer ℕ)
+pub one_ends : (known left later before now next : Option (List ℕ)) (s t u : Situation) (clean : Bool) (session : SessionOutcome) (r : Result model.Answer ℕ)
     → SoFar known left before now s t clean → IsTurn left later now next t u r → ends r ≡ true
     → is_done session.end ≡ ends_done r → are_accepted session.lines ≡ (clean && not (is_err r))
     → SessionOver known later before next s (Ok session) × LeavesOver known s u (Ok session)

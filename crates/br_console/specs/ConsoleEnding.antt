@@ -4,15 +4,15 @@ use Rattle.br_model.specs.Restored.{Restored}
 use Rattle.br_engine.specs.Outputs.{InSink}
 use Rattle.br_engine.specs.Delivering.{EndsWith}
 use Rattle.br_engine.specs.declared.restore_end.RestoreEnd.TheVariants as restore
-use Rattle.br_console.specs.declared.ending.Lines.{Lines}
-use Rattle.br_console.specs.declared.ending.Lines.TheVariants.{AllAccepted, SomeRefused}
+use Rattle.br_console.specs.declared.ending.LineVerdict.{LineVerdict}
+use Rattle.br_console.specs.declared.ending.LineVerdict.TheVariants.{AllAccepted, SomeRefused}
 use Rattle.br_console.specs.declared.ending.SessionEnd.{SessionEnd}
 use Rattle.br_console.specs.declared.ending.SessionEnd.TheVariants as session
 use Rattle.br_console.specs.declared.ending.End.{End}
 use Rattle.br_console.specs.declared.ending.End.TheVariants.{Done, Quit}
 
 -- no line was refused
-abbrev pub are_accepted : Lines → Bool
+abbrev pub are_accepted : LineVerdict → Bool
 are_accepted AllAccepted = true
 are_accepted SomeRefused = false
 

@@ -6,6 +6,7 @@ use Rattle.br_model.specs.Job.{JobRows}
 use Rattle.br_model.specs.Choice.{Request, choose}
 use Rattle.br_model.specs.View.{Entry}
 use Rattle.br_model.specs.Plan.{Plan, plan_of}
+use Rattle.br_plan.specs.Asked.{Asked}
 use Rattle.br_plan.specs.Means.{IsViewOfChosen}
 use Rattle.br_engine.specs.Restoring.{Told}
 use Rattle.br_engine.specs.Outputs.{InSink, StopsByFailure}
@@ -13,12 +14,11 @@ use Rattle.br_engine.specs.Restores.{Change}
 use Rattle.br_engine.specs.declared.restore.Restore.{Restore}
 use Rattle.br_console.specs.ConsoleEnding.{LeavesSink, are_accepted}
 use Rattle.br_console.specs.Running.{BeginsOver, RestoresOver, RunsOver, TellsOver}
-use Rattle.br_console.specs.declared.ending.Lines.{Lines}
+use Rattle.br_console.specs.declared.ending.LineVerdict.{LineVerdict}
 use Rattle.br_console.specs.declared.ending.End.{End}
 use Rattle.br_console.specs.declared.ending.End.TheVariants.{Done, Quit}
 use Rattle.br_console.specs.declared.ending.ConsoleRun.{ConsoleRun}
 use Rattle.br_console.specs.declared.console_fault.ConsoleFault.{ConsoleFault}
-use Rattle.br_console.specs.declared.running.JobSelection.{JobSelection}
 
 -- The run restored these files, or none if the dialogue did not end with `done`, and exactly the
 -- same files were put. If the run is refused, nothing was put.
@@ -31,34 +31,34 @@ Delivers known earlier later before after had has history q (Err why) = has ≡ 
 
 -- ---- over what drives, writer and sink show before and after
 
-abbrev pub DeliversInto : Option (List ℕ) → Change → JobSelection → Result ConsoleRun ConsoleFault → Type 0
+abbrev pub DeliversInto : Option (List ℕ) → Change → Asked → Result ConsoleRun ConsoleFault → Type 0
 DeliversInto known seen asked result =
-    Delivers known seen.old.told seen.new.told seen.old.written seen.new.written seen.old.has seen.new.has asked.history.now asked.request.now result
+    Delivers known seen.old.told seen.new.told seen.old.written seen.new.written seen.old.has seen.new.has asked.history asked.request result
 
 -- the run is that of the history, the request and the lines over all volumes that each of the drives may be taken to show
-abbrev pub RunsInto : Option (List ℕ) → Change → JobSelection → Result ConsoleRun ConsoleFault → Type 0
+abbrev pub RunsInto : Option (List ℕ) → Change → Asked → Result ConsoleRun ConsoleFault → Type 0
 RunsInto known seen asked result =
-    RunsOver known seen.old.told seen.new.told seen.old.written seen.new.written asked.history.now asked.request.now result
+    RunsOver known seen.old.told seen.new.told seen.old.written seen.new.written asked.history asked.request result
 
 -- what is written, whatever the drives do
-abbrev pub TellsInto : Option (List ℕ) → Option (List ℕ) → Option (List ℕ) → JobSelection → Result ConsoleRun ConsoleFault → Type 0
-TellsInto known before after asked result = TellsOver known before after asked.history.now asked.request.now result
+abbrev pub TellsInto : Option (List ℕ) → Option (List ℕ) → Option (List ℕ) → Asked → Result ConsoleRun ConsoleFault → Type 0
+TellsInto known before after asked result = TellsOver known before after asked.history asked.request result
 
--- all that comes before a drive is used
-abbrev pub BeginsInto : Option (List ℕ) → Option (List ℕ) → Option (List ℕ) → JobSelection → Result (Lines × Option Plan) ConsoleFault → Type 0
-BeginsInto known before after asked result = BeginsOver known before after asked.history.now asked.request.now result
+-- all that comes before a drive is asked
+abbrev pub BeginsInto : Option (List ℕ) → Option (List ℕ) → Option (List ℕ) → Asked → Result (LineVerdict × Option Plan) ConsoleFault → Type 0
+BeginsInto known before after asked result = BeginsOver known before after asked.history asked.request result
 
 -- the plan for some marked paths
-abbrev pub plan_for : JobSelection → List (List ℕ) → Result Plan ℕ
-plan_for asked marks = plan_of asked.history.now asked.request.now marks
+abbrev pub plan_for : Asked → List (List ℕ) → Result Plan ℕ
+plan_for asked marks = plan_of asked.history asked.request marks
 
 -- if the jobs are chosen, these entries are their view
-abbrev pub IsViewOfAsked : JobSelection → List Entry → Type 0
-IsViewOfAsked asked view = IsViewOfChosen asked.history.now asked.request.now view
+abbrev pub IsViewOfAsked : Asked → List Entry → Type 0
+IsViewOfAsked asked view = IsViewOfChosen asked.history asked.request view
 
 -- if the choice of jobs is refused, this holds
-abbrev pub IfUnchosen : JobSelection → Type 0 → Type 0
-IfUnchosen asked holds = (n : ℕ) → choose asked.history.now asked.request.now ≡ Err n → holds
+abbrev pub IfUnchosen : Asked → Type 0 → Type 0
+IfUnchosen asked holds = (n : ℕ) → choose asked.history asked.request ≡ Err n → holds
 
 -- ---- a sink that failed
 

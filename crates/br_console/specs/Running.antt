@@ -27,7 +27,7 @@ use Rattle.br_console.specs.ConsoleEnding.{EndIs, are_accepted}
 use Rattle.br_console.specs.Talking.{are_answered}
 use Rattle.br_console.specs.declared.console_fault.ConsoleFault.{ConsoleFault}
 use Rattle.br_console.specs.declared.console_fault.ConsoleFault.TheVariants as fault
-use Rattle.br_console.specs.declared.ending.Lines.{Lines}
+use Rattle.br_console.specs.declared.ending.LineVerdict.{LineVerdict}
 use Rattle.br_console.specs.declared.ending.End.{End}
 use Rattle.br_console.specs.declared.ending.End.TheVariants.{Done, Quit}
 use Rattle.br_console.specs.declared.ending.ConsoleRun.{ConsoleRun}
@@ -166,7 +166,7 @@ WritesPlan before after expected (Err (fault.NoEnd turns)) = ⊥
 
 -- what is expected before a drive is used was written, with the expected lines and plan; or the
 -- choice or the plan is refused as expected
-abbrev pub Begins : Option (List ℕ) → Option (List ℕ) → Begun → Result (Lines × Option Plan) ConsoleFault → Type 0
+abbrev pub Begins : Option (List ℕ) → Option (List ℕ) → Begun → Result (LineVerdict × Option Plan) ConsoleFault → Type 0
 Begins before after b (Ok made) = (b.is_clean ≡ are_accepted made.0) × (b.plan ≡ Ok made.1) × Appends before after b.text
 Begins before after b (Err fault.Memory) = ⊤
 Begins before after b (Err (fault.Plan why)) = IfSome (plan.cause why) (λ n. (b.plan ≡ Err n) × Appends before after b.text)
@@ -175,7 +175,7 @@ Begins before after b (Err (fault.Io why)) = ⊤
 Begins before after b (Err (fault.NoEnd turns)) = ⊤
 
 -- the same if the reader reports its bytes
-abbrev pub BeginsOver : Option (List ℕ) → Option (List ℕ) → Option (List ℕ) → List JobRows → Request → Result (Lines × Option Plan) ConsoleFault → Type 0
+abbrev pub BeginsOver : Option (List ℕ) → Option (List ℕ) → Option (List ℕ) → List JobRows → Request → Result (LineVerdict × Option Plan) ConsoleFault → Type 0
 BeginsOver (Some text) before after history q result = Begins before after (begun history q text) result
 BeginsOver None before after history q result = ⊤
 

@@ -11,7 +11,7 @@ use Rattle.br_keeper.specs.Beginnings.{Beginning}
 use Rattle.br_keeper.specs.Sessions.{Known}
 use Rattle.br_keeper.specs.declared.fault.KeeperFault.{KeeperFault}
 use Rattle.br_keeper.specs.declared.job_store.JobStore as jobs
-use Rattle.br_volume.specs.declared.store.VolumeStore as store
+use Rattle.br_volume.specs.declared.volume_store.VolumeStore as store
 use Rattle.br_keeper.specs.Committing.{Commits}
 use Rattle.br_keeper.specs.Keeping.{Keeping, shelf_of}
 use Rattle.br_console.specs.ScriptKeeper.{HasLearned}

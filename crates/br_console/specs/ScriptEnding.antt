@@ -13,8 +13,8 @@ use Rattle.br_engine.specs.declared.restore_end.RestoreEnd.TheVariants.{AllFiles
 use Rattle.br_console.specs.ConsoleFault as dialogue
 use Rattle.br_console.specs.declared.console_fault.ConsoleFault.{ConsoleFault}
 use Rattle.br_console.specs.declared.console_fault.ConsoleFault.TheVariants as of_dialogue
-use Rattle.br_console.specs.declared.ending.Lines.{Lines}
-use Rattle.br_console.specs.declared.ending.Lines.TheVariants.{AllAccepted, SomeRefused}
+use Rattle.br_console.specs.declared.ending.LineVerdict.{LineVerdict}
+use Rattle.br_console.specs.declared.ending.LineVerdict.TheVariants.{AllAccepted, SomeRefused}
 use Rattle.br_console.specs.DrivenRestoring.{IsRestored}
 use Rattle.br_console.specs.ScriptAnswering.{Tells, refusal_at}
 use Rattle.br_console.specs.declared.script_fault.ScriptFault.{ScriptFault}
@@ -78,13 +78,13 @@ RunsKept volumes count place before after was now result (Some groups) = Restore
 -- ---- dialogues
 
 -- a script whose lines were refused does not end cleanly
-abbrev pub after_lines : Lines → ScriptEnd → ScriptEnd
+abbrev pub after_lines : LineVerdict → ScriptEnd → ScriptEnd
 after_lines AllAccepted was = was
 after_lines SomeRefused was = Refused
 
 -- after a dialogue its plan is restored, if there is one
 abbrev pub EndsDialogue : Option (List Volume) → ℕ → Option (List ℕ) → Option (List ℕ) → ScriptEnd → ScriptEnd → Result (Unit {0}) ScriptFault
-    → Lines → Option Plan → Type 0
+    → LineVerdict → Option Plan → Type 0
 EndsDialogue volumes count before after was now result judged None = (now ≡ after_lines judged was) × Keeps before after × (result ≡ Ok tt)
 EndsDialogue volumes count before after was now result judged (Some plan) =
     Restores volumes count plan.groups (Some plan.names) before after (after_lines judged was) now result
@@ -105,6 +105,6 @@ RestoresPlan holds old new before after result plan =
 
 -- after a dialogue its plan is restored, if there is one
 abbrev pub EndsDialogueBy : {C V : Type 0} → (V → Option (List Volume)) → Script C V → Script C V → Option (List ℕ) → Option (List ℕ)
-    → Result (Unit {0}) ScriptFault → Lines → Option Plan → Type 0
+    → Result (Unit {0}) ScriptFault → LineVerdict → Option Plan → Type 0
 EndsDialogueBy holds old new before after result judged plan =
     EndsDialogue (holds old.desk.keeper.volumes) old.drives before after old.end new.end result judged plan

@@ -11,10 +11,10 @@ use Rattle.br_model.specs.Console as model
 use Rattle.br_model.specs.Console.{said, written, answer_of, after_answer, ends, console_lines, dialogue, marks_at_done}
 use Rattle.br_mark.specs.Seen.{Situation}
 use Rattle.br_console.specs.declared.console_fault.ConsoleFault.{ConsoleFault}
-use Rattle.br_console.specs.declared.reply.Reply.{Reply}
-use Rattle.br_console.specs.declared.reply.Reply.TheVariants.{Text, Refused, Done, Quit}
+use Rattle.br_console.specs.declared.reply.ConsoleReply.{ConsoleReply}
+use Rattle.br_console.specs.declared.reply.ConsoleReply.TheVariants.{Text, Refused, Done, Quit}
 use Rattle.br_console.specs.ConsoleEnding.{are_accepted, is_done}
-use Rattle.br_console.specs.declared.ending.Session.{Session}
+use Rattle.br_console.specs.declared.ending.SessionOutcome.{SessionOutcome}
 
 -- ---- the effect of the lines
 
@@ -52,14 +52,14 @@ left_unsaid s text = behind_lines (lines_said s.view s.state (console_lines text
 -- The dialogue of the lines of a text was appended to what the writer held. It ended with `done` if
 -- the lines reach it, and its lines were accepted if none was refused. The reader has left what
 -- follows the line that ended it.
-pub record IsSessionOf (text : List ℕ) (left before after : Option (List ℕ)) (s : Situation) (session : Session) : Type 0 where
+pub record IsSessionOf (text : List ℕ) (left before after : Option (List ℕ)) (s : Situation) (session : SessionOutcome) : Type 0 where
   pub written : Appends before after (dialogue s.view s.state (console_lines text))
   pub done : is_done session.end ≡ is_some (marks_at_done s.view s.state (console_lines text))
   pub clean : are_accepted session.lines ≡ are_answered s.view s.state (console_lines text)
   pub unsaid : left ≡ Some (left_unsaid s text)
 
 -- if the reader reports its bytes, a session that did not fail is that of their lines
-abbrev pub SessionOver : Option (List ℕ) → Option (List ℕ) → Option (List ℕ) → Option (List ℕ) → Situation → Result Session ConsoleFault → Type 0
+abbrev pub SessionOver : Option (List ℕ) → Option (List ℕ) → Option (List ℕ) → Option (List ℕ) → Situation → Result SessionOutcome ConsoleFault → Type 0
 SessionOver (Some text) left before after s (Ok session) = IsSessionOf text left before after s session
 SessionOver (Some text) left before after s (Err fault) = ⊤
 SessionOver None left before after s result = ⊤
@@ -81,21 +81,21 @@ talk reader writer old new = record {
 }
 
 -- this holds of the session, as a contract states it
-abbrev pub Converses : Talk → Situation → Result Session ConsoleFault → Type 0
+abbrev pub Converses : Talk → Situation → Result SessionOutcome ConsoleFault → Type 0
 Converses talk s result = SessionOver talk.known talk.left talk.before talk.after s result
 
 -- the marks of the console if the session ended with `done`
-abbrev pub marks_told : Session → model.Console → Option (List (List ℕ))
+abbrev pub marks_told : SessionOutcome → model.Console → Option (List (List ℕ))
 marks_told session c = if is_done session.end then Some c.marked else None
 
 -- the console is as the lines of the text left it, and its marks are those at `done` if the lines
 -- reach it
-pub record IsLeftBy (text : List ℕ) (s t : Situation) (session : Session) : Type 0 where
+pub record IsLeftBy (text : List ℕ) (s t : Situation) (session : SessionOutcome) : Type 0 where
   pub state : t.state ≡ console_after s.view s.state (console_lines text)
   pub marks : marks_told session t.state ≡ marks_at_done s.view s.state (console_lines text)
 
 -- if the reader reported its bytes, their lines left the console like this
-abbrev pub LeavesOver : Option (List ℕ) → Situation → Situation → Result Session ConsoleFault → Type 0
+abbrev pub LeavesOver : Option (List ℕ) → Situation → Situation → Result SessionOutcome ConsoleFault → Type 0
 LeavesOver (Some text) s t (Ok session) = IsLeftBy text s t session
 LeavesOver (Some text) s t (Err fault) = ⊤
 LeavesOver None s t result = ⊤
@@ -109,7 +109,7 @@ ReadsLine (Some text) left line is_line = (left ≡ Some (drop_through 10 text))
 ReadsLine None left line is_line = ⊤
 
 -- the answer or the refusal of a reply
-abbrev pub replied : Reply → Result model.Answer ℕ
+abbrev pub replied : ConsoleReply → Result model.Answer ℕ
 replied (Text text) = Ok (model.Text text.items)
 replied (Refused number) = Err number
 replied Done = Ok model.EndsDone

@@ -12,7 +12,7 @@ use std::marker::Model;
 const MAX_DRIVES: u64 = 16;
 
 /// A number of drives, from 1 to 16.
-#[derive(Clone, Copy, PartialEq, Eq)]
+#[derive(Clone, Copy)]
 pub struct DriveCount {
     count: u64,
 }

@@ -2,7 +2,7 @@ use br_engine::RestoreEnd;
 
 /// Whether the lines of a dialogue were accepted.
 #[derive(Clone, Copy)]
-pub enum Lines {
+pub enum LineVerdict {
     AllAccepted,
     SomeRefused,
 }
@@ -18,8 +18,8 @@ pub enum SessionEnd {
 
 /// The result of a console session.
 #[derive(Clone, Copy)]
-pub struct Session {
-    pub lines: Lines,
+pub struct SessionOutcome {
+    pub lines: LineVerdict,
     pub end: SessionEnd,
 }
 
@@ -35,6 +35,6 @@ pub enum End {
 /// The result of a run of the console.
 #[derive(Drop)]
 pub struct ConsoleRun {
-    pub lines: Lines,
+    pub lines: LineVerdict,
     pub end: End,
 }

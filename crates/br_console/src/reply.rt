@@ -9,7 +9,7 @@ use std::alloc::{AllocError, Global};
 
 /// A console's reply to a line.
 #[derive(Drop)]
-pub(crate) enum Reply {
+pub(crate) enum ConsoleReply {
     /// Lines to print, each with its line feed.
     Text(Vec<u8>),
     /// The number of a refusal: 55, 56 or 57.
@@ -18,26 +18,26 @@ pub(crate) enum Reply {
     Quit,
 }
 
-impl Reply {
+impl ConsoleReply {
     /// Returns true if the line was refused.
     pub(crate) fn is_refused(&self) -> bool
         ensures { result ≡ is_err (replied self.now) }
     {
-        matches!(self, Reply::Refused(_))
+        matches!(self, ConsoleReply::Refused(_))
     }
 
     /// Returns true if the dialogue ends here.
     pub(crate) fn ends(&self) -> bool
         ensures { result ≡ ends (replied self.now) }
     {
-        matches!(self, Reply::Done | Reply::Quit)
+        matches!(self, ConsoleReply::Done | ConsoleReply::Quit)
     }
 
     /// Returns true if the dialogue ends here with `done`.
     pub(crate) fn ends_done(&self) -> bool
         ensures { result ≡ ends_done (replied self.now) }
     {
-        matches!(self, Reply::Done)
+        matches!(self, ConsoleReply::Done)
     }
 
     /// Returns what is written for the reply.
@@ -45,25 +45,25 @@ impl Reply {
         ensures { IfOk result (λ text. text.items ≡ written (replied self)) }
     {
         match self {
-            Reply::Text(text) => Ok(text),
-            Reply::Refused(number) => {
+            ConsoleReply::Text(text) => Ok(text),
+            ConsoleReply::Refused(number) => {
                 let mut text = Vec::new(alloc);
                 push_refused_line(&mut text, number)?;
                 Ok(text)
             }
-            Reply::Done | Reply::Quit => Ok(Vec::new(alloc)),
+            ConsoleReply::Done | ConsoleReply::Quit => Ok(Vec::new(alloc)),
         }
     }
 }
 
 /// Returns the reply to a refused line.
-fn refused(fault: MarkFault) -> Result<Reply, AllocError>
+fn refused(fault: MarkFault) -> Result<ConsoleReply, AllocError>
     ensures known { IfOk result (λ reply. cause fault ≡ Some (fault_number fault)) }
     ensures reply { IfOk result (λ reply. replied reply ≡ Err (fault_number fault)) }
 {
     match fault {
         MarkFault::Memory => Err(AllocError),
-        _ => Ok(Reply::Refused(fault.number())),
+        _ => Ok(ConsoleReply::Refused(fault.number())),
     }
 }
 
@@ -72,7 +72,7 @@ pub(crate) fn say(
     alloc: Global,
     console: &mut Console<'_>,
     line: &[u8],
-) -> Result<Reply, AllocError>
+) -> Result<ConsoleReply, AllocError>
     ensures reply { IfOk result (λ reply. replied reply ≡ answer_of (said console.old.view console.old.state line.now)) }
     ensures state { OnOk result (console.new.state ≡ after_answer console.old.state (said console.old.view console.old.state line.now)) }
     ensures view { console.new.view ≡ console.old.view }
@@ -82,9 +82,9 @@ pub(crate) fn say(
         Err(fault) => return refused(fault),
     };
     match console.apply(&command) {
-        Ok(Answer::Text(text)) => Ok(Reply::Text(text)),
-        Ok(Answer::Done) => Ok(Reply::Done),
-        Ok(Answer::Quit) => Ok(Reply::Quit),
+        Ok(Answer::Text(text)) => Ok(ConsoleReply::Text(text)),
+        Ok(Answer::Done) => Ok(ConsoleReply::Done),
+        Ok(Answer::Quit) => Ok(ConsoleReply::Quit),
         Err(fault) => refused(fault),
     }
 }

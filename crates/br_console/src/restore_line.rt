@@ -8,8 +8,8 @@ use br_plan::{BadMoment, Request, read_moment};
 use std::alloc::Global;
 use thiserror::Error;
 
-/// The reason why the fields of a restore were refused.
-#[derive(Clone, Copy, Debug, PartialEq, Eq, Error)]
+/// Why the fields of a restore were refused.
+#[derive(Clone, Copy, Debug, Error)]
 pub(crate) enum RestoreLineFault {
     #[error("{0}")]
     Field(JobLineFault),

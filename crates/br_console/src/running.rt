@@ -10,14 +10,12 @@ ghost use Rattle.br_console.specs.Delivering.{BeginsInto, DeliversInto, RunStopI
 ghost use Rattle.br_console.specs.Delivering.{IfUnchosen, IsViewOfAsked, plan_for};
 
 use crate::console_fault::ConsoleFault;
-use crate::ending::{ConsoleRun, End, Lines, SessionEnd};
+use crate::ending::{ConsoleRun, End, LineVerdict, SessionEnd};
 use crate::talking::converse;
 use br_bsr::write_bootstrap;
-use br_choose::choose;
 use br_engine::{ExtractFault, Flush, Restore, RestoreOrder, show};
-use br_history::History;
 use br_mark::Console;
-use br_plan::{Plan, PlanFault, Request};
+use br_plan::{JobSelection, Plan, PlanFault};
 use br_sink::Sink;
 use br_tree::Tree;
 use br_view::View;
@@ -27,31 +25,12 @@ use std::io::BufRead;
 use std::sync::Wait;
 use std::thread::Threads;
 
-/// The jobs over which the console runs.
-#[derive(Drop)]
-pub struct JobSelection<'h> {
-    /// All jobs of the catalogue.
-    pub history: &'h History,
-    /// The request that chooses among them.
-    pub request: &'h Request,
-}
-
 /// Returns the console over the view of the chosen jobs, at `/` and without marks.
 #[tactic(auto, unfolding(crate::specs::Running::opening))]
-fn console_for<'h>(
-    alloc: Global,
-    history: &'h History,
-    request: &Request,
-) -> Result<Console<'h>, PlanFault>
-    ensures { Answers (λ console. console) cause result (opening history.now request.now) }
+fn console_for<'h>(alloc: Global, asked: &JobSelection<'h>) -> Result<Console<'h>, PlanFault>
+    ensures { Answers (λ console. console) cause result (opening asked.now.history asked.now.request) }
 {
-    let jobs = choose(
-        alloc,
-        history,
-        &request.client,
-        &request.fileset,
-        request.moment,
-    )?;
+    let jobs = asked.jobs(alloc)?;
     let view = View::build(alloc, &jobs)?;
     let tree = Tree::build(alloc, view)?;
     Ok(Console::new(alloc, tree)?)
@@ -68,7 +47,7 @@ fn write_plan<W: Flush>(
     ensures written { WritesPlan (W.contents writer.old) (W.contents writer.new) (plan_for asked.now tree.now.marked) result }
     ensures flushed { OnOk result (W.is_flushed writer.new) }
 {
-    let plan = Plan::for_marked(alloc, asked.history, asked.request, tree)?;
+    let plan = Plan::for_marked(alloc, asked, tree)?;
     let text = write_bootstrap(alloc, plan.bootstrap())?;
     show(writer, &text)?;
     Ok(plan)
@@ -86,7 +65,7 @@ pub fn prepare<R: BufRead + Drop, W: Flush>(
     asked: &JobSelection<'_>,
     reader: &mut R,
     writer: &mut W,
-) -> Result<(Lines, Option<Plan>), ConsoleFault>
+) -> Result<(LineVerdict, Option<Plan>), ConsoleFault>
     requires shown { W.is_flushed writer.old }
     ensures begins { BeginsInto (R.remaining reader.old) (W.contents writer.old) (W.contents writer.new) asked.now result }
     ensures flushed { OnOk result (W.is_flushed writer.new) }
@@ -95,7 +74,7 @@ pub fn prepare<R: BufRead + Drop, W: Flush>(
     ensures chosen { IfOk result (λ _. IfUnchosen asked.now ⊥) }
     ensures untouched { IfUnchosen asked.now ((reader.new ≡ reader.old) × (writer.new ≡ writer.old)) }
 {
-    let mut console = console_for(alloc, asked.history, asked.request)?;
+    let mut console = console_for(alloc, asked)?;
     let session = converse(alloc, &mut console, reader, writer)?;
     match session.end {
         SessionEnd::Quit => Ok((session.lines, None)),
@@ -119,8 +98,8 @@ fn console_fault(fault: ExtractFault) -> ConsoleFault
     }
 }
 
-/// Runs the console over a history: chooses the jobs of a request, and runs a session over their
-/// view as `converse` does, from a console at `/` without marks.
+/// Runs the console over a history: runs a session over the view of the jobs that a request chooses, as
+/// `converse`, from a console at `/` without marks.
 ///
 /// If the session ended with `done`, the plan for the marked paths is made, and its bootstrap is
 /// written and flushed before a drive is used. The planned files are then restored under their

@@ -6,8 +6,8 @@ use bstr::ByteSlice;
 use std::io::{BufRead, ErrorKind};
 
 /// The result of reading a line.
-#[derive(Clone, Copy, PartialEq, Eq)]
-pub(crate) enum Reading {
+#[derive(Clone, Copy)]
+pub(crate) enum LineReading {
     /// A line, which is now in the buffer.
     Line,
     /// Memory ran out for the line, which is skipped.
@@ -16,18 +16,18 @@ pub(crate) enum Reading {
     End,
 }
 
-impl Reading {
+impl LineReading {
     /// Returns the result for a line that was read in part or whole.
-    fn begun(self) -> Reading {
+    fn begun(self) -> LineReading {
         match self {
-            Reading::End => Reading::Line,
+            LineReading::End => LineReading::Line,
             _ => self,
         }
     }
 }
 
 /// The result of one turn of reading.
-enum Part {
+enum LinePart {
     /// The turn was interrupted.
     Nothing,
     /// Bytes of a line that continues.
@@ -39,7 +39,7 @@ enum Part {
 
 /// The lines of an input. A line ends only at LF, which the last line may lack.
 #[derive(Drop)]
-pub(crate) struct Lines<R> {
+pub(crate) struct InputLines<R> {
     reader: R,
     turns: Turns,
     number: u64,
@@ -51,9 +51,9 @@ fn keep(line: &mut Vec<u8>, part: &[u8], most: usize) -> bool {
     line.extend_from_slice(&part[..room]).is_ok()
 }
 
-impl<R: BufRead> Lines<R> {
-    pub(crate) fn new(reader: R) -> Lines<R> {
-        Lines {
+impl<R: BufRead> InputLines<R> {
+    pub(crate) fn new(reader: R) -> InputLines<R> {
+        InputLines {
             reader,
             turns: Turns::new(),
             number: 0,
@@ -69,51 +69,63 @@ impl<R: BufRead> Lines<R> {
 
     /// Makes one turn of reading: appends to `line` what the reader has of it at hand, up to `most`
     /// bytes in all. Returns the result, and false if memory ran out.
-    fn read_part(&mut self, line: &mut Vec<u8>, most: usize) -> Result<(Part, bool), ScriptFault>
+    fn read_part(
+        &mut self,
+        line: &mut Vec<u8>,
+        most: usize,
+    ) -> Result<(LinePart, bool), ScriptFault>
         ensures turn { OnOk result (self.new.turns ≡ self.old.turns + 1) }
         ensures few { OnOk result (self.old.turns < 2 ^ 40) }
     {
         self.turns.take()?;
         let available = match self.reader.fill_buf() {
             Ok(available) => available,
-            Err(e) if e.kind() == ErrorKind::Interrupted => return Ok((Part::Nothing, true)),
+            Err(e) if e.kind() == ErrorKind::Interrupted => return Ok((LinePart::Nothing, true)),
             Err(e) => return Err(ScriptFault::Io(e)),
         };
         let (part, used, is_kept) = match available.find_byte(b'\n') {
-            Some(at) => (Part::LineEnd, at + 1, keep(line, &available[..at], most)),
-            None if available.is_empty() => (Part::InputEnd, 0, true),
-            None => (Part::More, available.len(), keep(line, available, most)),
+            Some(at) => (
+                LinePart::LineEnd,
+                at + 1,
+                keep(line, &available[..at], most),
+            ),
+            None if available.is_empty() => (LinePart::InputEnd, 0, true),
+            None => (LinePart::More, available.len(), keep(line, available, most)),
         };
         self.reader.consume(used);
         Ok((part, is_kept))
     }
 
     /// Reads the next line into `line`, without its LF. Keeps at most `most` bytes of it.
-    pub(crate) fn read(&mut self, line: &mut Vec<u8>, most: usize) -> Result<Reading, ScriptFault>
+    pub(crate) fn read(
+        &mut self,
+        line: &mut Vec<u8>,
+        most: usize,
+    ) -> Result<LineReading, ScriptFault>
         ensures turns { OnOk result (self.old.turns < self.new.turns) }
         ensures few { OnOk result (self.old.turns < 2 ^ 40) }
     {
         line.clear();
-        let (mut most, mut reading) = (most, Reading::End);
+        let (mut most, mut reading) = (most, LineReading::End);
         loop {
             let (part, is_kept) = self.read_part(line, most)?;
             if !is_kept {
-                (most, reading) = (0, Reading::NoMemory);
+                (most, reading) = (0, LineReading::NoMemory);
             }
             match part {
-                Part::Nothing => {}
-                Part::More => reading = reading.begun(),
-                Part::LineEnd => return Ok(self.counted(reading.begun())),
-                Part::InputEnd => return Ok(self.counted(reading)),
+                LinePart::Nothing => {}
+                LinePart::More => reading = reading.begun(),
+                LinePart::LineEnd => return Ok(self.counted(reading.begun())),
+                LinePart::InputEnd => return Ok(self.counted(reading)),
             }
         }
     }
 
     /// Counts the line that was read, if there was one.
-    fn counted(&mut self, reading: Reading) -> Reading
+    fn counted(&mut self, reading: LineReading) -> LineReading
         ensures { self.new.turns ≡ self.old.turns }
     {
-        if reading != Reading::End {
+        if reading != LineReading::End {
             self.number = self.number.saturating_add(1);
         }
         reading

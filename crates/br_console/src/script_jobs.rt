@@ -9,7 +9,7 @@ ghost use Rattle.br_console.specs.ScriptJobs.{BeginsJob, CommitsJob, DraftTakes,
 
 use crate::script::Script;
 use crate::script_fault::ScriptFault;
-use crate::script_input::Lines;
+use crate::script_input::InputLines;
 use crate::script_line::is_restore;
 use crate::script_text::skip_dialogue;
 use br_history::{Draft, SavedJob, Taken, read_head};
@@ -84,7 +84,7 @@ impl<C: JobStore, V: VolumeStore> Script<C, V> {
         &mut self,
         number: u32,
         line: &[u8],
-        lines: &mut Lines<R>,
+        lines: &mut InputLines<R>,
         writer: &mut W,
     ) -> Result<(), ScriptFault>
         ensures drives { self.new.drives ≡ self.old.drives }
@@ -107,7 +107,7 @@ impl<C: JobStore, V: VolumeStore> Script<C, V> {
         rt: &T,
         mut draft: Draft,
         line: &[u8],
-        lines: &mut Lines<R>,
+        lines: &mut InputLines<R>,
         writer: &mut W,
     ) -> Result<(), ScriptFault>
         requires own { IsOwn self.old.desk.session self.old.desk.keeper }

@@ -19,7 +19,7 @@ pub(crate) struct Desk<C: JobStore, W: VolumeStore> {
 
 impl<C: JobStore, W: VolumeStore> Desk<C, W> {
     /// Commits a job. Returns its number.
-    #[tactic(auto, using(crate::proofs::DeskLaws::own_after))]
+    #[tactic(auto, using(br_keeper::proofs::OutcomeLaws::commits_of, crate::proofs::DeskLaws::own_after))]
     pub(crate) fn commit<T: Wait>(&mut self, rt: &T, job: SavedJob) -> Result<JobId, KeeperFault>
         requires own { IsOwn self.old.session self.old.keeper }
         ensures own { IsOwn self.new.session self.new.keeper }

@@ -8,18 +8,17 @@ ghost use Rattle.br_console.specs.ScriptEnding.{EndsDialogueBy, RefusesBy, Resto
 
 use crate::console_fault::ConsoleFault;
 use crate::driven_store::{DrivenRestore, DrivenStore};
-use crate::ending::Lines as Judged;
+use crate::ending::LineVerdict;
 use crate::restore_line::read_request;
-use crate::running::{JobSelection, prepare};
+use crate::running::prepare;
 use crate::script::{BAD_SCRIPT, Script, ScriptEnd};
 use crate::script_fault::ScriptFault;
-use crate::script_input::Lines;
+use crate::script_input::InputLines;
 use crate::script_text::{Text, TextKind, read_text, skip_dialogue};
 use br_bsr::read_bootstrap;
-use br_choose::choose;
 use br_engine::ExtractFault;
 use br_keeper::{JobStore, Snapshot};
-use br_plan::{Plan, Request};
+use br_plan::{JobSelection, Plan, Request};
 use std::alloc::Global;
 use std::io::{BufRead, Write};
 use std::sync::Wait;
@@ -34,14 +33,14 @@ enum Dialogue {
     /// The input ended before the dialogue, which has no effect.
     Unended,
     /// It was completed: whether its lines were accepted, and the plan, if it ended with `done`.
-    Held(Judged, Option<Plan>),
+    Held(LineVerdict, Option<Plan>),
     /// It failed, or its plan was refused.
     Broken(ConsoleFault),
 }
 
 /// Runs the dialogue of these lines, and writes what comes before drives are used.
 fn hold<W: Write>(alloc: Global, asked: &JobSelection<'_>, text: &[u8], writer: &mut W) -> Dialogue
-    ensures { Converses (W.contents writer.old) (W.contents writer.new) asked.now.history.now asked.now.request.now result }
+    ensures { Converses (W.contents writer.old) (W.contents writer.new) asked.now.history asked.now.request result }
 {
     let mut reader = text;
     match prepare(alloc, asked, &mut reader, writer) {
@@ -53,16 +52,9 @@ fn hold<W: Write>(alloc: Global, asked: &JobSelection<'_>, text: &[u8], writer: 
 /// Returns the number of the refusal of the choice of jobs, if it is refused.
 #[tactic(auto, using(crate::proofs::ChoiceLaws::refused_choice))]
 fn refusal_of(alloc: Global, asked: &JobSelection<'_>) -> Option<u32>
-    ensures { IfSome result (IsUnchosen asked.now.history.now asked.now.request.now) }
+    ensures { IfSome result (IsUnchosen asked.now.history asked.now.request) }
 {
-    let request = asked.request;
-    match choose(
-        alloc,
-        asked.history,
-        &request.client,
-        &request.fileset,
-        request.moment,
-    ) {
+    match asked.jobs(alloc) {
         Ok(_) => None,
         Err(fault) => Some(fault.number()),
     }
@@ -72,11 +64,11 @@ fn refusal_of(alloc: Global, asked: &JobSelection<'_>) -> Option<u32>
 fn converse_over<R: BufRead, W: Write>(
     alloc: Global,
     asked: &JobSelection<'_>,
-    lines: &mut Lines<R>,
+    lines: &mut InputLines<R>,
     writer: &mut W,
 ) -> Result<Dialogue, ScriptFault>
     ensures turns { OnOk result (lines.old.turns ≤ lines.new.turns) }
-    ensures over { ConversesOver (W.contents writer.old) (W.contents writer.new) asked.now.history.now asked.now.request.now result }
+    ensures over { ConversesOver (W.contents writer.old) (W.contents writer.new) asked.now.history asked.now.request result }
 {
     if let Some(number) = refusal_of(alloc, asked) {
         return Ok(Dialogue::Refused(number));
@@ -93,17 +85,14 @@ fn converse_at<R: BufRead, W: Write>(
     alloc: Global,
     snapshot: &Snapshot,
     request: &Request,
-    lines: &mut Lines<R>,
+    lines: &mut InputLines<R>,
     writer: &mut W,
 ) -> Result<Dialogue, ScriptFault>
     ensures turns { OnOk result (lines.old.turns ≤ lines.new.turns) }
     ensures over { ConversesOver (W.contents writer.old) (W.contents writer.new)
         (snapshot.now.opening ++ snapshot.now.list) request.now result }
 {
-    let asked = JobSelection {
-        history: snapshot.history(),
-        request,
-    };
+    let asked = JobSelection::new(alloc, snapshot.history(), request);
     converse_over(alloc, &asked, lines, writer)
 }
 
@@ -112,7 +101,7 @@ impl<C: JobStore, V: DrivenStore> Script<C, V> {
     /// none if it is refused.
     pub(crate) fn keep_bootstrap<R: BufRead, W: Write>(
         &mut self,
-        lines: &mut Lines<R>,
+        lines: &mut InputLines<R>,
         writer: &mut W,
     ) -> Result<(), ScriptFault>
         ensures drives { self.new.drives ≡ self.old.drives }
@@ -192,7 +181,7 @@ impl<C: JobStore, V: DrivenStore> Script<C, V> {
     fn end_dialogue<T: Threads + Wait + Sync, W: Write>(
         &mut self,
         rt: &T,
-        judged: Judged,
+        judged: LineVerdict,
         plan: Option<Plan>,
         writer: &mut W,
     ) -> Result<(), ScriptFault>
@@ -200,7 +189,7 @@ impl<C: JobStore, V: DrivenStore> Script<C, V> {
         ensures desk { self.new.desk ≡ self.old.desk }
         ensures ends { EndsDialogueBy V.holds self.old self.new (W.contents writer.old) (W.contents writer.new) result judged plan }
     {
-        if judged == Judged::SomeRefused {
+        if judged == LineVerdict::SomeRefused {
             self.end = ScriptEnd::Refused;
         }
         match plan {
@@ -213,7 +202,7 @@ impl<C: JobStore, V: DrivenStore> Script<C, V> {
     fn refuse_restore<R: BufRead, W: Write>(
         &mut self,
         number: u32,
-        lines: &mut Lines<R>,
+        lines: &mut InputLines<R>,
         writer: &mut W,
     ) -> Result<(), ScriptFault>
         ensures drives { self.new.drives ≡ self.old.drives }
@@ -230,7 +219,7 @@ impl<C: JobStore, V: DrivenStore> Script<C, V> {
         &mut self,
         rt: &T,
         dialogue: Dialogue,
-        lines: &mut Lines<R>,
+        lines: &mut InputLines<R>,
         writer: &mut W,
     ) -> Result<(), ScriptFault>
         ensures drives { self.new.drives ≡ self.old.drives }
@@ -254,7 +243,7 @@ impl<C: JobStore, V: DrivenStore> Script<C, V> {
     fn converse<R: BufRead, W: Write>(
         &mut self,
         request: &Request,
-        lines: &mut Lines<R>,
+        lines: &mut InputLines<R>,
         writer: &mut W,
     ) -> Result<Dialogue, ScriptFault>
         requires own { IsOwn self.old.desk.session self.old.desk.keeper }
@@ -279,7 +268,7 @@ impl<C: JobStore, V: DrivenStore> Script<C, V> {
         &mut self,
         rt: &T,
         fields: &[u8],
-        lines: &mut Lines<R>,
+        lines: &mut InputLines<R>,
         writer: &mut W,
     ) -> Result<(), ScriptFault>
         requires own { IsOwn self.old.desk.session self.old.desk.keeper }

@@ -13,7 +13,7 @@ use crate::driven_store::DrivenStore;
 use crate::forgetful::Forgetful;
 use crate::script::{BAD_SCRIPT, Script, ScriptEnd};
 use crate::script_fault::ScriptFault;
-use crate::script_input::{Lines, Reading};
+use crate::script_input::{InputLines, LineReading};
 use crate::script_line::{MAX_LINE, ScriptLine, is_restore, read_line};
 use crate::script_text::skip_dialogue;
 use br_engine::Budget;
@@ -46,7 +46,7 @@ impl<C: JobStore, V: DrivenStore> Script<C, V> {
         &mut self,
         rt: &T,
         line: ScriptLine<'_>,
-        lines: &mut Lines<R>,
+        lines: &mut InputLines<R>,
         writer: &mut W,
     ) -> Result<(), ScriptFault>
         requires own { IsOwn self.old.desk.session self.old.desk.keeper }
@@ -76,7 +76,7 @@ impl<C: JobStore, V: DrivenStore> Script<C, V> {
         &mut self,
         fault: LineFault,
         line: &[u8],
-        lines: &mut Lines<R>,
+        lines: &mut InputLines<R>,
         writer: &mut W,
     ) -> Result<(), ScriptFault>
         ensures drives { self.new.drives ≡ self.old.drives }
@@ -101,7 +101,7 @@ impl<C: JobStore, V: DrivenStore> Script<C, V> {
         &mut self,
         rt: &T,
         line: &[u8],
-        lines: &mut Lines<R>,
+        lines: &mut InputLines<R>,
         writer: &mut W,
     ) -> Result<(), ScriptFault>
         requires own { IsOwn self.old.desk.session self.old.desk.keeper }
@@ -125,7 +125,7 @@ impl<C: JobStore, V: DrivenStore> Script<C, V> {
         &mut self,
         rt: &T,
         line: &[u8],
-        lines: &mut Lines<R>,
+        lines: &mut InputLines<R>,
         writer: &mut W,
     ) -> Result<(), ScriptFault>
         requires own { IsOwn self.old.desk.session self.old.desk.keeper }
@@ -155,13 +155,13 @@ impl<C: JobStore, V: DrivenStore> Script<C, V> {
         ensures endless { IfErr result EndlessAfterAll }
         ensures does { Does C.inserts C.refuses V.holds V.failures self.new.desk.session self.old.desk.keeper self.new.desk.keeper }
     {
-        let mut lines = Lines::new(reader);
+        let mut lines = InputLines::new(reader);
         let mut line = Vec::new(self.alloc);
         loop {
             match lines.read(&mut line, MAX_LINE + 1)? {
-                Reading::Line => self.carry_out(rt, &line, &mut lines, writer)?,
-                Reading::NoMemory => self.lose_line(writer)?,
-                Reading::End => return Ok(self.end),
+                LineReading::Line => self.carry_out(rt, &line, &mut lines, writer)?,
+                LineReading::NoMemory => self.lose_line(writer)?,
+                LineReading::End => return Ok(self.end),
             }
         }
     }

@@ -2,7 +2,7 @@
 ghost use Rattle.std.specs.Prelude.{◌≤◌, OnOk};
 
 use crate::script_fault::ScriptFault;
-use crate::script_input::{Lines, Reading};
+use crate::script_input::{InputLines, LineReading};
 use crate::script_line::MAX_LINE;
 use br_mark::Command;
 use std::alloc::Global;
@@ -23,8 +23,8 @@ pub(crate) enum Text {
     Unended,
 }
 
-/// The kinds of texts of several lines.
-#[derive(Clone, Copy, PartialEq, Eq)]
+/// What a text of several lines is.
+#[derive(Clone, Copy)]
 pub(crate) enum TextKind {
     /// A bootstrap. A line `.` ends it and is no part of it.
     Bootstrap,
@@ -51,8 +51,8 @@ impl TextKind {
 }
 
 /// Appends a line and its LF. Returns false if memory ran out, for this line or its reading.
-fn push_line(text: &mut Vec<u8>, line: &[u8], reading: Reading) -> bool {
-    reading == Reading::Line && text.extend_from_slice(line).is_ok() && text.push(b'\n').is_ok()
+fn push_line(text: &mut Vec<u8>, line: &[u8], reading: LineReading) -> bool {
+    reading == LineReading::Line && text.extend_from_slice(line).is_ok() && text.push(b'\n').is_ok()
 }
 
 /// Returns the text, unless memory ran out for it.
@@ -70,7 +70,7 @@ fn text_of(text: Vec<u8>, has_memory: bool) -> Text {
 /// line is read.
 pub(crate) fn read_text<R: BufRead>(
     alloc: Global,
-    lines: &mut Lines<R>,
+    lines: &mut InputLines<R>,
     kind: TextKind,
 ) -> Result<Text, ScriptFault>
     ensures { OnOk result (lines.old.turns ≤ lines.new.turns) }
@@ -82,10 +82,10 @@ pub(crate) fn read_text<R: BufRead>(
     let mut has_memory = true;
     loop {
         let reading = lines.read(&mut line, MAX_KEPT)?;
-        if reading == Reading::End {
+        if reading == LineReading::End {
             return Ok(Text::Unended);
         }
-        let is_last = reading == Reading::Line && kind.is_last(alloc, &line);
+        let is_last = reading == LineReading::Line && kind.is_last(alloc, &line);
         if !is_last || kind == TextKind::Dialogue {
             has_memory = has_memory && push_line(&mut text, &line, reading);
         }
@@ -99,7 +99,7 @@ pub(crate) fn read_text<R: BufRead>(
 /// memory runs out for that line, skips none.
 pub(crate) fn skip_dialogue<R: BufRead>(
     alloc: Global,
-    lines: &mut Lines<R>,
+    lines: &mut InputLines<R>,
 ) -> Result<(), ScriptFault>
     ensures { OnOk result (lines.old.turns ≤ lines.new.turns) }
 {
@@ -108,8 +108,8 @@ pub(crate) fn skip_dialogue<R: BufRead>(
     };
     loop {
         match lines.read(&mut line, MAX_KEPT)? {
-            Reading::End => return Ok(()),
-            Reading::Line if ends_dialogue(alloc, &line) => return Ok(()),
+            LineReading::End => return Ok(()),
+            LineReading::Line if ends_dialogue(alloc, &line) => return Ok(()),
             _ => {}
         }
     }

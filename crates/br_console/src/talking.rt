@@ -5,7 +5,7 @@ ghost use Rattle.br_console.specs.ConsoleEnding.{are_accepted, is_done};
 ghost use Rattle.br_console.specs.Talking.{Converses, LeavesOver, ReadsLine, talk};
 
 use crate::console_fault::ConsoleFault;
-use crate::ending::{Lines, Session, SessionEnd};
+use crate::ending::{LineVerdict, SessionEnd, SessionOutcome};
 use crate::reply::say;
 use br_engine::{Flush, Turns, show};
 use br_mark::Console;
@@ -13,15 +13,15 @@ use std::alloc::Global;
 use std::io::BufRead;
 
 /// Returns the result of a session from two flags: it ended with `done`, and no line was refused.
-fn session_of(done: bool, clean: bool) -> Session
+fn session_of(done: bool, clean: bool) -> SessionOutcome
     ensures done { is_done result.end ≡ done }
     ensures clean { are_accepted result.lines ≡ clean }
 {
-    Session {
+    SessionOutcome {
         lines: if clean {
-            Lines::AllAccepted
+            LineVerdict::AllAccepted
         } else {
-            Lines::SomeRefused
+            LineVerdict::SomeRefused
         },
         end: if done {
             SessionEnd::Done
@@ -81,7 +81,7 @@ pub fn converse<R: BufRead + Drop, W: Flush>(
     console: &mut Console<'_>,
     reader: &mut R,
     writer: &mut W,
-) -> Result<Session, ConsoleFault>
+) -> Result<SessionOutcome, ConsoleFault>
     requires shown { W.is_flushed writer.old }
     ensures session { Converses (talk R.Read W.Write (reader.old, writer.old) (reader.new, writer.new)) console.old result }
     ensures leaves { LeavesOver (R.remaining reader.old) console.old console.new result }

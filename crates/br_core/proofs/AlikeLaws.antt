@@ -9,7 +9,7 @@ use Rattle.br_model.specs.Volume.{Volume, volume_bytes, Extends, is_above, next_
 use Rattle.br_model.specs.Meaning.{Piece, PieceFault, Hit, bound_of, is_covered, just_groups, hits_in, hits_on}
 use Rattle.br_model.proofs.AnswerLaws.{bind_ok}
 use Rattle.br_model.proofs.SpanLaws.{read_header_more}
-use Rattle.br_model.proofs.VolumeLaws.{laid_block}
+use Rattle.br_model.proofs.VolumeLaws.{laid_block, and_false}
 use Rattle.br_match.specs.Walk.{step_among, step_on, rest_on, and_rest, Follows, HasHead}
 use Rattle.br_match.proofs.StepLaws.{rest_is_step_on}
 use Rattle.br_match.proofs.SeenLaws.{step_in, step_of_head, step_of_bad_head, step_uncovered}
@@ -39,11 +39,6 @@ record IsBlockAt (piece : Piece) (a : ℕ) (left : List ℕ) : Type 0 where
   head : Header
   read : read_header left ≡ Ok head
   whole : is_covered (just_groups piece.groups) a ≡ true → head.size ≤ length left
-
--- of two tests that do not both hold the second does not if the first does (as in br_match)
-and_false : (a b : Bool) → (a && b) ≡ false → a ≡ true → b ≡ false
-and_false true b e p = e
-and_false false b e p = absurd cc
 
 -- a step that is not refused has a block (as in br_match)
 block_of_step : (volumes : List Volume) (piece : Piece) (a : ℕ) (bytes : List ℕ) (s : Option (List Hit × ℕ)) → is_above (bound_of (just_groups piece.groups)) a ≡ false

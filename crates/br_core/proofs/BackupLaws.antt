@@ -1,48 +1,33 @@
 -- Jobs that were committed, and one more.
-use Rattle.std.proofs.Common.{◌≡◌, ℕ, zero, suc, ◌+◌, ◌<◌, ◌^◌, ◌⊎◌, List, [], ◌∷◌, ◌++◌, length, take, get_or, map, Option, Some, None, Result, Ok, Err, IfOk, OnErr, OnOk, refl, sym, ap, subst, ◌∙◌, inl, inr, arith}
+use Rattle.std.proofs.Common.{◌≡◌, ℕ, zero, suc, ◌+◌, ◌<◌, List, [], ◌∷◌, ◌++◌, length, take, get_or, map, Option, Some, None, Result, Ok, Err, OnErr, OnOk, refl, sym, ap, subst, ◌∙◌, inl, inr, arith}
 use Rattle.std.proofs.lemmas.List.{length-append, length-map, take_more, map-append}
 use Rattle.std.specs.Prelude.{IfSome, slice_get}
 use Rattle.std.specs.Global.{Vec}
 use Rattle.std.specs.List.{AllByRecursion}
-use Rattle.br_model.specs.Answer.{◌>>=◌, Answers, IsRefusal}
-use Rattle.br_model.specs.Name.{SessionKey}
+use Rattle.br_model.specs.Answer.{◌>>=◌, Answers}
 use Rattle.br_model.specs.Volume.{Volume, volume_bytes, Extends}
-use Rattle.br_model.specs.Job.{Span, JobRows, Job, are_rows, checked_rows, pushed}
-use Rattle.br_model.specs.Session.{Place, ToSave, Written, checked_spans, rows_of, visits}
-use Rattle.br_model.specs.SessionHolds.{IsToSave, IsReady, AreAppended}
+use Rattle.br_model.specs.Job.{Span, JobRows, Job, pushed}
+use Rattle.br_model.specs.Session.{Place, checked_spans, visits}
+use Rattle.br_model.specs.SessionHolds.{IsReady, AreAppended}
 use Rattle.br_model.specs.PlanMeaning.{rows_of_jobs}
-use Rattle.br_model.proofs.AnswerLaws.{chosen, err_is_not_ok, ok_is}
 use Rattle.br_volume.proofs.ExtendLaws.{extends_itself}
 use Rattle.br_volume.specs.Store.{AreAppendedInTurn, IsAppended}
-use Rattle.br_session.specs.Outcome.{IsOutcome, SessionHolds}
-use Rattle.br_session.specs.declared.fault.SessionFault.{SessionFault}
 use Rattle.br_history.specs.Committing.{AreWhole}
 use Rattle.br_history.specs.Fault.{cause, fault_number}
-use Rattle.br_history.specs.Saving.{ToCommit, IsToCommit, IsJobWith}
+use Rattle.br_history.specs.Preparing.{MakesSession}
+use Rattle.br_history.specs.Saving.{ToCommit}
 use Rattle.br_history.specs.Taken.{admitted}
 use Rattle.br_history.specs.declared.fault.HistoryFault.{HistoryFault}
 use Rattle.br_history.specs.declared.fault.HistoryFault.TheVariants.{Memory, DuplicateJob, DuplicateSession, BadRow}
 use Rattle.br_history.proofs.AdmittedLaws.{pushed_is_admitted_lem}
-use Rattle.br_history.proofs.RowFitLaws.{written_rows_fit_lem}
+use Rattle.br_history.proofs.PreparingLaws.{only_memory, row_stays}
 use Rattle.br_history.proofs.StayWholeLaws.{volumes_stay_whole_lem, whole_volumes_are_ready_lem}
 use Rattle.br_core.specs.Machine.{World, IsCommitted, IsRefusedFor, job_rows, lengths_of}
 use Rattle.br_core.specs.Backups.{Committed, AreBackups, IsAdded, backups_of, job_with, jobs_of}
-use Rattle.br_core.specs.Committing.{CommitsTo, IsInRange, IsJobWritten, IsPrepared, Prepares, WritesJob}
+use Rattle.br_core.specs.Committing.{CommitsTo, IsPrepared, Prepares}
+use Rattle.br_volume.proofs.AppendLaws.{in_turn_more}
 
 -- ---- a job is prepared
-
--- the numbers of its session are those of the key
-pub in_range : (c : ToCommit) (key : SessionKey) → key ≡ c.row.session → IsToCommit c → key.id < 2 ^ 32 → key.time < 2 ^ 32 → IsInRange c
-in_range c key same is id_fits time_fits = record {
-  commits = is;
-  id_fits = subst (λ (k : SessionKey). k.id < 2 ^ 32) same id_fits;
-  time_fits = subst (λ (k : SessionKey). k.time < 2 ^ 32) same time_fits;
-}
-
--- the rows of a job have its own row
-row_stays : (c : ToCommit) (spans : List Span) → (job_rows c spans).row ≡ c.row
-unfolding rows_of
-row_stays c spans = refl
 
 -- what is said of any rows with the row of the job
 pushed_as : (history : List JobRows) (c : ToCommit) (spans : List Span) (r : Result (List JobRows) ℕ) → admitted history c.row ≡ r
@@ -62,8 +47,8 @@ refused_row history c starts DuplicateJob e = not_among history c starts 40 e
 refused_row history c starts DuplicateSession e = not_among history c starts 41 e
 refused_row history c starts BadRow e = not_among history c starts 42 e
 
--- its session is not written
-pub refused_spans : (history : List JobRows) (c : ToCommit) (starts : List (List ℕ × ℕ)) (why : HistoryFault) → admitted history c.row ≡ Ok history → WritesJob c starts (Err why)
+-- its session is not made
+refused_spans : (history : List JobRows) (c : ToCommit) (starts : List (List ℕ × ℕ)) (why : HistoryFault) → admitted history c.row ≡ Ok history → MakesSession c starts (Err why)
     → Prepares history c starts (Err why)
 refused_spans history c starts Memory ok h = tt
 refused_spans history c starts DuplicateJob ok (inl e) = absurd cc
@@ -83,71 +68,17 @@ refused_spans history c starts BadRow ok (inr (e, spans)) =
       },
     )
 
--- once its session is written, its rows fit together
-fit : (c : ToCommit) (starts : List (List ℕ × ℕ)) (written : Written) → IsInRange c → IsJobWritten c starts written → AllByRecursion IsToSave c.files
-    → checked_rows (job_rows c written.spans) ≡ Ok (job_rows c written.spans)
-fit c starts written is was all =
-    written_rows_fit_lem c.row c.files c.deleted c.limit c.places starts written all is.commits.in_order is.commits.early is.id_fits is.time_fits is.commits.bounds.1 was.is_written
-
--- so they are refused only if memory runs out
-only_memory : {X : Type 0} (why : HistoryFault) (r : Result X ℕ) (x : X) → r ≡ Ok x → IsRefusal (cause why) r → why ≡ Memory
-only_memory Memory r x ok e = refl
-only_memory DuplicateJob r x ok e = absurd (err_is_not_ok 40 x (sym e ∙ ok))
-only_memory DuplicateSession r x ok e = absurd (err_is_not_ok 41 x (sym e ∙ ok))
-only_memory BadRow r x ok e = absurd (err_is_not_ok 42 x (sym e ∙ ok))
-
-pub refused_rows : (history : List JobRows) (c : ToCommit) (starts : List (List ℕ × ℕ)) (written : Written) (why : HistoryFault) → IsInRange c → IsJobWritten c starts written
-    → IsRefusal (cause why) (checked_rows (job_rows c written.spans)) → (why ≡ Memory) ⊎ AllByRecursion IsToSave c.files → Prepares history c starts (Err why)
-refused_rows history c starts written why is was e (inl memory) = subst (λ (f : HistoryFault). Prepares history c starts (Err f)) (sym memory) tt
-refused_rows history c starts written why is was e (inr all) =
-    let rows = job_rows c written.spans in
-    subst (λ (f : HistoryFault). Prepares history c starts (Err f)) (sym (only_memory why (checked_rows rows) rows (fit c starts written is was all) e)) tt
-
--- rows that are not refused are those that were given
-same_rows : (rows other : JobRows) → checked_rows rows ≡ Ok other → rows ≡ other
-unfolding checked_rows
-same_rows rows other e =
-    elim (chosen (are_rows rows) (Ok rows) (Err 42) (Ok other) e) [
-      | inl p ↦ ok_is rows other p.1
-      | inr p ↦ absurd (err_is_not_ok 42 other p.1)
-    ]
-
--- the job is prepared
-pub is_prepared : (history : List JobRows) (c : ToCommit) (starts : List (List ℕ × ℕ)) (written : Written) (rows : JobRows) → IsInRange c → admitted history c.row ≡ Ok history
-    → IsJobWritten c starts written → checked_rows (job_rows c written.spans) ≡ Ok rows → IsJobWith c.files rows → IsPrepared history c starts rows written.blocks
-is_prepared history c starts written rows is ok was made of_files =
-    let same = same_rows (job_rows c written.spans) rows made in
-    record {
-      written = written;
-      is_written = was;
-      blocks_are = refl;
-      rows_are = sym same;
-      fits = subst (λ (r : JobRows). pushed history r ≡ Ok (history ++ r ∷ [])) same (pushed_as history c written.spans (Ok history) ok);
-      is_job = subst (IsJobWith c.files) (sym same) of_files;
-      in_range = is;
-    }
-
--- ---- a session is written
-
--- what comes of writing the session of the job to volumes of these lengths
-pub record ComesOf (c : ToCommit) (starts : List (List ℕ × ℕ)) (r : Result Written SessionFault) : Type 0 where
-  pub outcome : IsOutcome c.files c.row.session c.limit c.places starts r
-  pub holds : IfOk r (λ written. SessionHolds c.files c.row.session c.places starts written)
-
-pub comes_of : (c : ToCommit) (starts : List (List ℕ × ℕ)) (r : Result Written SessionFault) (files : List ToSave) (key : SessionKey) (limit : ℕ) (places : List Place)
-    → files ≡ c.files → key ≡ c.row.session → limit ≡ c.limit → places ≡ c.places
-    → IsOutcome files key limit places starts r → IfOk r (λ written. SessionHolds files key places starts written) → ComesOf c starts r
-comes_of c starts r files key limit places files_are key_is limit_is places_are outcome holds = record {
-  outcome = rw (files_are, key_is, limit_is, places_are) at outcome;
-  holds = rw (files_are, key_is, places_are) at holds;
+-- the job is prepared, if its session is made
+pub prepares : (history : List JobRows) (c : ToCommit) (starts : List (List ℕ × ℕ)) (r : Result (JobRows × Vec (List ℕ × Vec ℕ)) HistoryFault) → admitted history c.row ≡ Ok history
+    → MakesSession c starts r → Prepares history c starts r
+prepares history c starts (Ok p) ok session = record {
+  session = session;
+  fits =
+      subst (λ (r : JobRows). pushed history r ≡ Ok (history ++ r ∷ [])) (sym session.is_session.rows_are) (pushed_as history c session.written.spans (Ok history) ok);
 }
+prepares history c starts (Err why) ok session = refused_spans history c starts why ok session
 
 -- ---- blocks are appended one after another
-
-pub in_turn_more : (blocks : List (List ℕ × List ℕ)) (block : List ℕ × List ℕ) (earlier middle later : List Volume) → AreAppendedInTurn blocks earlier middle
-    → IsAppended block.0 block.1 middle later → AreAppendedInTurn (blocks ++ block ∷ []) earlier later
-in_turn_more [] block earlier middle later is one = (later, subst (λ (m : List Volume). IsAppended block.0 block.1 m later) is one, refl)
-in_turn_more (b ∷ bs) block earlier middle later is one = (is.0, is.1, in_turn_more bs block is.0 middle later is.2 one)
 
 -- the first blocks, and one more
 pub turn_more : (blocks : List (List ℕ × Vec ℕ)) (i : ℕ) (block : List ℕ × Vec ℕ) (earlier middle later : List Volume) → i < length blocks → block ≡ get_or blocks i block
@@ -193,22 +124,23 @@ committed : (history : List JobRows) (commits : List Committed) (volumes later :
     → AreBackups history commits volumes → IsPrepared history c (lengths_of volumes) rows blocks → AreAppended blocks volumes later → Extends later volumes
     → IsCommitted (backups_of history commits volumes) c volumes (backups_of (history ++ rows ∷ []) (commits ++ record { job = c; before = volumes } ∷ []) later)
 committed history commits volumes later c rows blocks are is appended extends =
+    let session = is.session.is_session in
     let more : List Committed = commits ++ record { job = c; before = volumes } ∷ [] in
     let longer : length more ≡ length (history ++ rows ∷ []) = omega (arith, are.each, length-append history (rows ∷ []), length-append commits (record { job = c; before = volumes } ∷ [])) in
     record {
-      written = is.written;
-      is_written = is.is_written.is_written;
+      written = is.session.written;
+      is_written = session.is_written.is_written;
       fits =
-          ap (λ (h : List JobRows). pushed h (job_rows c is.written.spans)) (rows_back history commits are.each) ∙ ap (pushed history) (sym is.rows_are) ∙ is.fits
+          ap (λ (h : List JobRows). pushed h (job_rows c is.session.written.spans)) (rows_back history commits are.each) ∙ ap (pushed history) (sym session.rows_are) ∙ is.fits
           ∙ ap Ok (sym (rows_back (history ++ rows ∷ []) more longer));
-      is_job = is.is_job;
+      is_job = session.is_job;
       jobs_are =
           jobs_more history commits rows (record { job = c; before = volumes }) are.each
-          ∙ ap (λ (r : JobRows). jobs_of history commits ++ job_with (r, record { job = c; before = volumes }) ∷ []) is.rows_are;
+          ∙ ap (λ (r : JobRows). jobs_of history commits ++ job_with (r, record { job = c; before = volumes }) ∷ []) session.rows_are;
       extend = extends;
       holds =
-          is.is_written.holds c.row c.deleted volumes later later refl (all_ready volumes c.places are.whole)
-          (subst (λ (bs : List (List ℕ × List ℕ)). AreAppended bs volumes later) is.blocks_are appended) (extends_itself later);
+          session.is_written.holds c.row c.deleted volumes later later refl (all_ready volumes c.places are.whole)
+          (subst (λ (bs : List (List ℕ × List ℕ)). AreAppended bs volumes later) is.session.blocks_are appended) (extends_itself later);
       earlier_are = map-append (λ (d : Committed). d.before) commits (record { job = c; before = volumes } ∷ []);
       restores_are = refl;
     }
@@ -220,8 +152,8 @@ still_backups : (history : List JobRows) (commits : List Committed) (volumes lat
 still_backups history commits volumes later c rows blocks are is appended = record {
   each = omega (arith, are.each, length-append history (rows ∷ []), length-append commits (record { job = c; before = volumes } ∷ []));
   whole =
-      volumes_stay_whole_lem c.files c.row.session c.limit c.places (lengths_of volumes) is.written volumes later is.in_range.id_fits is.in_range.time_fits is.in_range.commits.bounds.1 is.is_written.is_written are.whole
-      (subst (λ (bs : List (List ℕ × List ℕ)). AreAppended bs volumes later) is.blocks_are appended);
+      volumes_stay_whole_lem c.files c.row.session c.limit c.places (lengths_of volumes) is.session.written volumes later is.session.is_session.in_range.id_fits is.session.is_session.in_range.time_fits is.session.is_session.in_range.commits.bounds.1 is.session.is_session.is_written.is_written are.whole
+      (subst (λ (bs : List (List ℕ × List ℕ)). AreAppended bs volumes later) is.session.blocks_are appended);
 }
 
 -- a job that is not prepared is refused

@@ -7,7 +7,7 @@ use Rattle.br_core.specs.Machine as machine
 use Rattle.br_core.specs.Machine.{World, AreAfter, IsRead, IsTaken, restore_at, stages_of}
 use Rattle.br_core.specs.Moving.{commits_at}
 use Rattle.br_core.specs.Stepping.{IsEventOf, world_with}
-use Rattle.br_core.specs.declared.restore.Restore.{Restore}
+use Rattle.br_core.specs.declared.restore.OpenRestore.{OpenRestore}
 use Rattle.br_core.specs.Machine.Event.{Claim, Fail, Finish, Read, Take}
 use Rattle.br_core.specs.Reached.{IsReached}
 use Rattle.br_core.specs.Reading.{CanBeRead}
@@ -51,14 +51,14 @@ finish_is w n piece commits shown reached are of = record {
 -- ---- when a restore was planned
 
 -- the number of commits before the plan of a restore of the state, which may be given separately
-pub planned_since : (backups : World) (restores : List (Option Restore)) (n since : ℕ) → commits_at (slice_get restores n) ≡ Some since
+pub planned_since : (backups : World) (restores : List (Option OpenRestore)) (n since : ℕ) → commits_at (slice_get restores n) ≡ Some since
     → (r : machine.Restore) → restore_at (world_with backups restores) n ≡ Some r → r.commits ≡ since
 planned_since backups restores n since told r at =
     let k = kept_at backups restores n r at in
     sym (ap (λ (m : machine.Restore). m.commits) k.seen) ∙ same_Some k.kept.commits since (sym (ap commits_at k.at) ∙ told)
 
 -- its volumes are those after that number
-pub planned_over : (backups : World) (restores : List (Option Restore)) (n since : ℕ) (shown : List Volume) → commits_at (slice_get restores n) ≡ Some since
+pub planned_over : (backups : World) (restores : List (Option OpenRestore)) (n since : ℕ) (shown : List Volume) → commits_at (slice_get restores n) ≡ Some since
     → slice_get (stages_of backups) since ≡ Some shown → (r : machine.Restore) → restore_at (world_with backups restores) n ≡ Some r → r.volumes ≡ shown
 planned_over backups restores n since shown told there r at =
     let k = kept_at backups restores n r at in

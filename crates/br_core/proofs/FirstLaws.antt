@@ -23,8 +23,8 @@ use Rattle.br_core.specs.Machine.Status.{Waiting}
 use Rattle.br_core.specs.Parts.{AreFirst}
 use Rattle.br_core.specs.Statuses.{is_finished, status_of}
 use Rattle.br_core.specs.View.{hits_of_batches}
-use Rattle.br_core.specs.declared.status.Status as code
-use Rattle.br_core.specs.declared.status.Status.TheVariants as at
+use Rattle.br_core.specs.declared.piece_status.Status as code
+use Rattle.br_core.specs.declared.piece_status.Status.TheVariants as at
 use Rattle.br_core.proofs.PlaceLaws.{get_last}
 
 -- ---- the joiner

@@ -11,8 +11,8 @@ use Rattle.br_core.specs.Machine.{Restore, Status, IsAtEnd, IsRead, goes, stands
 use Rattle.br_core.specs.Machine.Status.{Waiting, Claimed, Finished}
 use Rattle.br_core.specs.Reading.{CanBeRead, IsNext, IsReady, OverReady, ReadsPiece}
 use Rattle.br_core.specs.Statuses.{address_in, is_waiting, status_of}
-use Rattle.br_core.specs.declared.status.Status as code
-use Rattle.br_core.specs.declared.status.Status.TheVariants as at
+use Rattle.br_core.specs.declared.piece_status.Status as code
+use Rattle.br_core.specs.declared.piece_status.Status.TheVariants as at
 use Rattle.br_core.proofs.PartLaws.{stands_at}
 
 -- ---- statuses

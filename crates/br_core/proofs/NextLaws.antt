@@ -17,8 +17,8 @@ use Rattle.br_match.specs.declared.hit.Batch.{Batch}
 use Rattle.br_core.specs.Reading.{IsReadFault, OverEnclosing, ReadsNext, ReadsPiece}
 use Rattle.br_core.specs.declared.fault.StepFault.{StepFault}
 use Rattle.br_core.specs.declared.fault.StepFault.TheVariants.{NotEnabled}
-use Rattle.br_core.specs.declared.status.Status as code
-use Rattle.br_core.specs.declared.status.Status.TheVariants as at
+use Rattle.br_core.specs.declared.piece_status.Status as code
+use Rattle.br_core.specs.declared.piece_status.Status.TheVariants as at
 
 -- the volumes decide every cause but a drive's failure
 pub decided : (why : PieceCause) (vol : List ℕ) (addr : ℕ) → (cause_number why ≡ 13 → ⊥) → (r : model.PieceFault) × (refusal why vol addr ≡ Some r)

@@ -15,8 +15,8 @@ use Rattle.br_match.specs.declared.hit.Batch.{Batch}
 use Rattle.br_join.specs.Joining.{Joining, with_batch, with_closed}
 use Rattle.br_core.specs.Parts.{AreParts}
 use Rattle.br_core.specs.Statuses.{is_finished, status_of}
-use Rattle.br_core.specs.declared.status.Status.{Status}
-use Rattle.br_core.specs.declared.status.Status.TheVariants.{Claimed, Finished}
+use Rattle.br_core.specs.declared.piece_status.Status.{Status}
+use Rattle.br_core.specs.declared.piece_status.Status.TheVariants.{Claimed, Finished}
 use Rattle.br_core.proofs.PlaceLaws.{same_or_not, set_other, set_same, was_there, without}
 
 -- ---- one status

@@ -30,7 +30,7 @@ use Rattle.br_core.specs.declared.event.Reply.{Reply}
 use Rattle.br_core.specs.declared.event.Reply.TheVariants as given
 use Rattle.br_core.specs.declared.fault.StepFault.{StepFault}
 use Rattle.br_core.specs.declared.fault.StepFault.TheVariants.{Memory, NotEnabled}
-use Rattle.br_core.specs.declared.restore.Restore.{Restore}
+use Rattle.br_core.specs.declared.restore.OpenRestore.{OpenRestore}
 use Rattle.br_core.proofs.BackupLaws.{no_backups}
 use Rattle.br_core.proofs.EventLaws.{finish_is, planned_over, planned_since, read_is}
 use Rattle.br_core.proofs.MovingLaws.{found_at, kept_at}
@@ -49,7 +49,7 @@ still_reached before after event (Err fault) reached step whole = subst IsReache
 -- ---- commits
 
 -- each restore was planned after no more commits than there were
-planned_before : (backups : World) (restores : List (Option Restore)) (n : ℕ) (r : Restore) → IsReached (world_with backups restores) → slice_get restores n ≡ Some (Some r)
+planned_before : (backups : World) (restores : List (Option OpenRestore)) (n : ℕ) (r : OpenRestore) → IsReached (world_with backups restores) → slice_get restores n ≡ Some (Some r)
     → r.commits < length (stages_of backups)
 planned_before backups restores n r reached at =
     let u = reached_restore (world_with backups restores) n (restore_of backups.jobs (stages_of backups) r) reached (found_at backups restores n r at) in
@@ -58,7 +58,7 @@ planned_before backups restores n r reached at =
     omega (arith, same, since)
 
 -- with more jobs and one stage more a restore that was planned before them is seen as it was
-seen_one : (jobs more : List Job) (stages : List (List Volume)) (volumes : List Volume) (r : Restore) → r.commits ≤ length jobs → r.commits < length stages
+seen_one : (jobs more : List Job) (stages : List (List Volume)) (volumes : List Volume) (r : OpenRestore) → r.commits ≤ length jobs → r.commits < length stages
     → restore_of (jobs ++ more) (stages ++ volumes ∷ []) r ≡ restore_of jobs stages r
 seen_one jobs more stages volumes r few early =
     ap (λ (js : List Job). seen js (unwrap_or (slice_get (stages ++ volumes ∷ []) r.commits) [])) (take-append-le r.commits jobs more few)
@@ -67,8 +67,8 @@ seen_one jobs more stages volumes r few early =
     seen : List Job → List Volume → machine.Restore
     seen js vs = record (restore_of jobs stages r) { jobs = js; volumes = vs }
 
-seen_more : (jobs more : List Job) (stages : List (List Volume)) (volumes : List Volume) (restores : List (Option Restore))
-    → ((n : ℕ) (r : Restore) → slice_get restores n ≡ Some (Some r) → (r.commits ≤ length jobs) × (r.commits < length stages))
+seen_more : (jobs more : List Job) (stages : List (List Volume)) (volumes : List Volume) (restores : List (Option OpenRestore))
+    → ((n : ℕ) (r : OpenRestore) → slice_get restores n ≡ Some (Some r) → (r.commits ≤ length jobs) × (r.commits < length stages))
     → seen_all (jobs ++ more) (stages ++ volumes ∷ []) restores ≡ seen_all jobs stages restores
 seen_more jobs more stages volumes [] each = refl
 seen_more jobs more stages volumes (None ∷ rs) each = ap (λ (l : List (Option machine.Restore)). None ∷ l) (seen_more jobs more stages volumes rs (λ n. each (suc n)))
@@ -78,7 +78,7 @@ seen_more jobs more stages volumes (Some r ∷ rs) each =
     ∙ ap (λ (l : List (Option machine.Restore)). Some (restore_of jobs stages r) ∷ l) (seen_more jobs more stages volumes rs (λ n. each (suc n)))
 
 -- a commit changes none of the restores
-committed_beside : (before after : World) (c : ToCommit) (restores : List (Option Restore)) → IsReached (world_with before restores) → length before.jobs ≡ length before.earlier
+committed_beside : (before after : World) (c : ToCommit) (restores : List (Option OpenRestore)) → IsReached (world_with before restores) → length before.jobs ≡ length before.earlier
     → IsCommitted before c before.volumes after → IsCommitted (world_with before restores) c before.volumes (world_with after restores)
 committed_beside before after c restores reached as_many is = record {
   written = is.written;
@@ -98,18 +98,18 @@ committed_beside before after c restores reached as_many is = record {
     new : Job
     new = job_of c is.written.spans
 
-    each : (n : ℕ) (r : Restore) → slice_get restores n ≡ Some (Some r) → (r.commits ≤ length before.jobs) × (r.commits < length (stages_of before))
+    each : (n : ℕ) (r : OpenRestore) → slice_get restores n ≡ Some (Some r) → (r.commits ≤ length before.jobs) × (r.commits < length (stages_of before))
     each n r at =
         let since = planned_before before restores n r reached at in
         (omega (arith, since, as_many, length-append before.earlier (before.volumes ∷ [])), since)
 
 -- nor does a refusal
-refused_beside : (before : World) (c : ToCommit) (restores : List (Option Restore)) (n : ℕ) → IsRefusedFor before c before.volumes n → IsRefusedFor (world_with before restores) c before.volumes n
+refused_beside : (before : World) (c : ToCommit) (restores : List (Option OpenRestore)) (n : ℕ) → IsRefusedFor before c before.volumes n → IsRefusedFor (world_with before restores) c before.volumes n
 refused_beside before c restores n (inl row) = inl row
 refused_beside before c restores n (inr (is, long)) =
     inr (is, record { blocks = long.blocks; accepted = long.accepted; fits = long.fits; packed = long.packed; refused = long.refused })
 
-pub commit_refused : (before after : World) (c : ToCommit) (restores : List (Option Restore)) (why : HistoryFault) (fault : StepFault) → cause fault ≡ history.cause why → CommitsTo before c after (Err why)
+pub commit_refused : (before after : World) (c : ToCommit) (restores : List (Option OpenRestore)) (why : HistoryFault) (fault : StepFault) → cause fault ≡ history.cause why → CommitsTo before c after (Err why)
     → TakesStep (world_with before restores) (Commit c) (world_with after restores) (Err fault)
 commit_refused before after c restores why fault same is = (
   ap (λ (w : World). world_with w restores) is.0,
@@ -117,7 +117,7 @@ commit_refused before after c restores why fault same is = (
       (IfSome_then (history.cause why) is.1 (λ n refused. (refl, refused_beside before c restores n refused))),
 )
 
-pub commit_done : (before after : World) (c : ToCommit) (restores : List (Option Restore)) → IsReached (world_with before restores) → length before.jobs ≡ length before.earlier
+pub commit_done : (before after : World) (c : ToCommit) (restores : List (Option OpenRestore)) → IsReached (world_with before restores) → length before.jobs ≡ length before.earlier
     → CommitsTo before c after (Ok tt) → TakesStep (world_with before restores) (Commit c) (world_with after restores) (Ok given.Done)
 commit_done before after c restores reached as_many is = committed_beside before after c restores reached as_many is
 
@@ -137,13 +137,13 @@ unplanned w q script past why fault same is refused =
     subst (λ (o : Option ℕ). IfSome o (λ n. plan_for (rows_of_jobs w.jobs) q script ≡ Err n)) (sym is) here
 
 -- a restore is planned
-pub begins : (w : World) (q : Request) (script : List Command) (past : List JobRows) (marks : List (List ℕ)) (plan : model.Plan) (r : Restore) (commits : ℕ) → past ≡ rows_of_jobs w.jobs
+pub begins : (w : World) (q : Request) (script : List Command) (past : List JobRows) (marks : List (List ℕ)) (plan : model.Plan) (r : OpenRestore) (commits : ℕ) → past ≡ rows_of_jobs w.jobs
     → plan_for past q script ≡ Ok (marks, plan) → IsPlanned commits q marks plan r → commits ≡ length w.earlier → commits ≡ length w.jobs → PlansRestore w q script (Ok r)
 begins w q script past marks plan r commits same is planned stages jobs =
     (marks, plan, ap (λ (h : List JobRows). plan_for h q script) (sym same) ∙ is, planned w (sym stages) (sym jobs))
 
 -- a restore is planned, under the next number
-pub plan_begins : (backups : World) (restores : List (Option Restore)) (q : Request) (script : List Command) (r : Restore) (number : ℕ) → PlansRestore backups q script (Ok r)
+pub plan_begins : (backups : World) (restores : List (Option OpenRestore)) (q : Request) (script : List Command) (r : OpenRestore) (number : ℕ) → PlansRestore backups q script (Ok r)
     → number ≡ length restores → TakesStep (world_with backups restores) (Plan q script) (world_with backups (restores ++ Some r ∷ [])) (Ok (given.Planned number))
 plan_begins backups restores q script r number p is = (
   p.0,
@@ -154,7 +154,7 @@ plan_begins backups restores q script r number p is = (
       (map-append see restores (Some r ∷ []) ∙ ap (λ (m : machine.Restore). map see restores ++ Some m ∷ []) p.3),
 )
   where
-    see : Option Restore → Option machine.Restore
+    see : Option OpenRestore → Option machine.Restore
     see = option_map (restore_of backups.jobs (stages_of backups))
 
 -- it is not
@@ -165,18 +165,18 @@ plan_refused w q script fault refused = (refl, IfSome_then (cause fault) refused
 -- ---- reads and ends of walks
 
 -- there is no such restore
-pub shows_none : (backups : World) (restores : List (Option Restore)) (n commits : ℕ) → None ≡ commits_at (slice_get restores n) → ShowsTo backups restores n commits None
+pub shows_none : (backups : World) (restores : List (Option OpenRestore)) (n commits : ℕ) → None ≡ commits_at (slice_get restores n) → ShowsTo backups restores n commits None
 shows_none backups restores n commits none since volumes told early there = let is_none : ◌≡◌ {A = Option ℕ} None (Some since) = none ∙ told in absurd cc
 
 -- the restore was planned later
-pub shows_early : (backups : World) (restores : List (Option Restore)) (n commits late : ℕ) → Some late ≡ commits_at (slice_get restores n) → commits < late
+pub shows_early : (backups : World) (restores : List (Option OpenRestore)) (n commits late : ℕ) → Some late ≡ commits_at (slice_get restores n) → commits < late
     → ShowsTo backups restores n commits None
 shows_early backups restores n commits late told later since volumes told' early there =
     let same : late ≡ since = same_Some late since (told ∙ told') in
     absurd (omega (arith, same, later, early))
 
 -- it was not
-pub shows_to : (backups : World) (restores : List (Option Restore)) (n commits since : ℕ) (found : Option (List Volume)) → Some since ≡ commits_at (slice_get restores n) → since ≤ commits
+pub shows_to : (backups : World) (restores : List (Option OpenRestore)) (n commits since : ℕ) (found : Option (List Volume)) → Some since ≡ commits_at (slice_get restores n) → since ≤ commits
     → found ≡ slice_get (stages_of backups) commits → ShowsTo backups restores n commits found
 shows_to backups restores n commits since (Some volumes) told early there = ((since, sym told, early), sym there)
 shows_to backups restores n commits since None told early there = λ other volumes told' early' there'.
@@ -184,7 +184,7 @@ shows_to backups restores n commits since None told early there = λ other volum
     absurd cc
 
 -- a walk reads over the volumes of a number of commits
-pub read_given : (backups : World) (before after : List (Option Restore)) (n piece commits : ℕ) (volumes : List Volume) (result : Result Reply StepFault)
+pub read_given : (backups : World) (before after : List (Option OpenRestore)) (n piece commits : ℕ) (volumes : List Volume) (result : Result Reply StepFault)
     → IsReached (world_with backups before) → ShowsTo backups before n commits (Some volumes)
     → StepsOfOne (λ r. CanBeRead r piece volumes) (λ r next. IsRead r piece volumes next) n before after result
     → TakesStep (world_with backups before) (Read n piece commits) (world_with backups after) result
@@ -196,7 +196,7 @@ read_given backups before after n piece commits volumes result reached shows ste
     omega (arith, since, told.2)))
 
 -- there are no such volumes
-pub read_none : (backups : World) (restores : List (Option Restore)) (n piece commits : ℕ) → ShowsTo backups restores n commits None
+pub read_none : (backups : World) (restores : List (Option OpenRestore)) (n piece commits : ℕ) → ShowsTo backups restores n commits None
     → TakesStep (world_with backups restores) (Read n piece commits) (world_with backups restores) (Err NotEnabled)
 read_none backups restores n piece commits none = (refl, (refl, refl, go))
   where
@@ -208,7 +208,7 @@ read_none backups restores n piece commits none = (refl, (refl, refl, go))
         none k.kept.commits can.3.0 (ap commits_at k.at) (omega (arith, same, since)) can.3.1.are
 
 -- a walk ends over the volumes of the restore's plan
-pub finish_given : (backups : World) (before after : List (Option Restore)) (n piece since : ℕ) (volumes : List Volume) (result : Result Reply StepFault)
+pub finish_given : (backups : World) (before after : List (Option OpenRestore)) (n piece since : ℕ) (volumes : List Volume) (result : Result Reply StepFault)
     → IsReached (world_with backups before) → commits_at (slice_get before n) ≡ Some since → slice_get (stages_of backups) since ≡ Some volumes
     → StepsOfOne (λ r. CanBeRead r piece volumes) (Finishes piece volumes) n before after result
     → TakesStep (world_with backups before) (Finish n piece) (world_with backups after) result
@@ -218,7 +218,7 @@ finish_given backups before after n piece since volumes result reached told ther
     (planned_since backups before n since told r at, planned_over backups before n since volumes told there r at)))
 
 -- there is no such restore
-pub finish_none : (backups : World) (restores : List (Option Restore)) (n piece : ℕ) → commits_at (slice_get restores n) ≡ None
+pub finish_none : (backups : World) (restores : List (Option OpenRestore)) (n piece : ℕ) → commits_at (slice_get restores n) ≡ None
     → TakesStep (world_with backups restores) (Finish n piece) (world_with backups restores) (Err NotEnabled)
 finish_none backups restores n piece none = (refl, (refl, refl, go))
   where
@@ -229,7 +229,7 @@ finish_none backups restores n piece none = (refl, (refl, refl, go))
         absurd cc
 
 -- the volumes of its plan are always there
-pub finish_over : (backups : World) (restores : List (Option Restore)) (n piece since : ℕ) → IsReached (world_with backups restores) → commits_at (slice_get restores n) ≡ Some since
+pub finish_over : (backups : World) (restores : List (Option OpenRestore)) (n piece since : ℕ) → IsReached (world_with backups restores) → commits_at (slice_get restores n) ≡ Some since
     → slice_get (stages_of backups) since ≡ None → TakesStep (world_with backups restores) (Finish n piece) (world_with backups restores) (Err NotEnabled)
 finish_over backups restores n piece since reached told none = (refl, (refl, refl, go))
   where

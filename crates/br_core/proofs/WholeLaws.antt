@@ -20,9 +20,9 @@ use Rattle.br_core.specs.Machine.{IsWhole}
 use Rattle.br_core.specs.Machine.Status.{Waiting, Claimed, Finished}
 use Rattle.br_core.specs.Statuses.{is_finished, status_of}
 use Rattle.br_core.specs.View.{TellsWhole, hits_of_batches}
-use Rattle.br_core.specs.declared.restore.Restore.{Restore}
-use Rattle.br_core.specs.declared.status.Status as code
-use Rattle.br_core.specs.declared.status.Status.TheVariants as at
+use Rattle.br_core.specs.declared.restore.OpenRestore.{OpenRestore}
+use Rattle.br_core.specs.declared.piece_status.Status as code
+use Rattle.br_core.specs.declared.piece_status.Status.TheVariants as at
 
 -- ---- statuses
 
@@ -99,13 +99,13 @@ looked_up_true m each =
 -- ---- the restore
 
 -- the joiner of a restore whose pieces are all finished is ready
-pub joiner_is_ready : (r : Restore) → TellsWhole r true → is_ready r.joiner ≡ true
+pub joiner_is_ready : (r : OpenRestore) → TellsWhole r true → is_ready r.joiner ≡ true
 joiner_is_ready r whole =
     let all = all_finished r.statuses.items (whole [] []).finished in
     looked_up_true r.joiner.pieces (λ k b e. finished_at r.statuses.items k b all (sym (r.parts.closed k) ∙ e))
 
 -- what the tests of a restore give
-pub tells_whole : (r : Restore) (none all : Bool) → none ≡ is_empty r.transit.items → all ≡ list_all is_finished r.statuses.items → TellsWhole r (none && all)
+pub tells_whole : (r : OpenRestore) (none all : Bool) → none ≡ is_empty r.transit.items → all ≡ list_all is_finished r.statuses.items → TellsWhole r (none && all)
 tells_whole r none all left each = go none all left each
   where
     no_batch : (batches : List (ℕ × Batch)) → true ≡ is_empty batches → hits_of_batches batches ≡ []

@@ -7,8 +7,8 @@ use Rattle.br_model.specs.Answer.{◌>>=◌}
 use Rattle.br_model.specs.Volume.{Volume, Extends}
 use Rattle.br_model.specs.Meaning.{Piece, Hit, Hits, pieces_of, with_hits}
 use Rattle.br_model.specs.Restored.{Restored, files}
-use Rattle.br_model.specs.Job.{Span, JobRows, Job, IsJob, pushed, is_history}
-use Rattle.br_model.specs.Session.{ToSave, Written, IsWritten, ArePacked, session_records, visits, checked_spans, rows_of}
+use Rattle.br_model.specs.Job.{JobRows, Job, IsJob, pushed, is_history}
+use Rattle.br_model.specs.Session.{Written, IsWritten, ArePacked, session_records, visits, checked_spans}
 use Rattle.br_model.specs.Choice.{Request, choose}
 use Rattle.br_model.specs.View.{view_of}
 use Rattle.br_model.specs.Console.{Command, at_start, marks_after}
@@ -17,6 +17,7 @@ use Rattle.br_model.specs.Plan.{plan_of}
 use Rattle.br_model.specs.PlanMeaning.{rows_of_jobs}
 use Rattle.br_model.specs.Stored.{Holds}
 use Rattle.br_match.specs.Walk.{step_on}
+pub use Rattle.br_history.specs.Preparing.{job_of, job_rows}
 pub use Rattle.br_history.specs.Saving.{ToCommit}
 
 -- ---- states
@@ -84,14 +85,6 @@ pub data Reply : Type 0 where
 -- the lengths of volumes
 abbrev pub lengths_of : List Volume → List (List ℕ × ℕ)
 lengths_of volumes = map (λ (v : Volume). (v.name, length v.bytes)) volumes
-
--- the rows of the job in the catalogue, if its spans are these
-abbrev pub job_rows : ToCommit → List Span → JobRows
-job_rows c spans = rows_of c.row c.files c.deleted spans
-
--- the job, if its spans are these
-abbrev pub job_of : ToCommit → List Span → Job
-job_of c spans = record { rows = job_rows c spans; saved = map (λ (f : ToSave). f.file) c.files }
 
 -- The job is there, and the volumes hold it. Its session was written to the volumes that the commit
 -- finds. The volumes after it extend those.

@@ -12,7 +12,7 @@ use Rattle.br_core.specs.declared.fault.StepFault.{StepFault}
 use Rattle.br_core.specs.declared.fault.StepFault.TheVariants.{Memory, NotEnabled}
 use Rattle.br_core.specs.declared.restore.Move.{Move}
 use Rattle.br_core.specs.declared.restore.Move.TheVariants.{Claim, Read, Fail, Finish, Take}
-use Rattle.br_core.specs.declared.restore.Restore.{Restore}
+use Rattle.br_core.specs.declared.restore.OpenRestore.{OpenRestore}
 
 -- the condition of a move on the restore
 abbrev pub asked : Move → machine.Restore → Type 0
@@ -31,42 +31,42 @@ moved (Finish piece volumes) r after = Finishes piece (volumes_of volumes.now) r
 moved (Take place) r after = IsTaken r place after
 
 -- the number of commits before the plan of a restore, if there is one that is not over
-abbrev pub commits_at : Option (Option Restore) → Option ℕ
+abbrev pub commits_at : Option (Option OpenRestore) → Option ℕ
 commits_at (Some (Some r)) = Some r.commits
 commits_at (Some None) = None
 commits_at None = None
 
 -- restores as the relation has them
-abbrev pub seen_all : List Job → List (List Volume) → List (Option Restore) → List (Option machine.Restore)
+abbrev pub seen_all : List Job → List (List Volume) → List (Option OpenRestore) → List (Option machine.Restore)
 seen_all jobs stages restores = map (option_map (restore_of jobs stages)) restores
 
 -- the two lists correspond to one list of the relation
-abbrev pub AreSeenAs : List (Option Restore) → List (Option Restore) → Type 0
+abbrev pub AreSeenAs : List (Option OpenRestore) → List (Option OpenRestore) → Type 0
 AreSeenAs before after = (jobs : List Job) (stages : List (List Volume)) → seen_all jobs stages after ≡ seen_all jobs stages before
 
 -- The restore of this number makes the move. No restore is changed if memory runs out, or if none
 -- of this number can make the move.
 abbrev pub OneMoves :
-    (machine.Restore → Type 0) → (machine.Restore → machine.Restore → Type 0) → ℕ → List (Option Restore) → List (Option Restore)
+    (machine.Restore → Type 0) → (machine.Restore → machine.Restore → Type 0) → ℕ → List (Option OpenRestore) → List (Option OpenRestore)
     → Result (Unit {0}) StepFault → Type 0
 OneMoves Premise Move number before after (Ok _) =
-    (r : Restore) × (r' : Restore) × (slice_get before number ≡ Some (Some r)) × (after ≡ set before number (Some r')) × MovesIf Premise Move r r' (Ok tt)
+    (r : OpenRestore) × (r' : OpenRestore) × (slice_get before number ≡ Some (Some r)) × (after ≡ set before number (Some r')) × MovesIf Premise Move r r' (Ok tt)
 OneMoves Premise Move number before after (Err fault) =
     AreSeenAs before after
     × ((fault ≡ Memory)
-    ⊎ ((fault ≡ NotEnabled) × ((r : Restore) → slice_get before number ≡ Some (Some r) → CannotMove Premise Move r)))
+    ⊎ ((fault ≡ NotEnabled) × ((r : OpenRestore) → slice_get before number ≡ Some (Some r) → CannotMove Premise Move r)))
 
 -- No restore is changed: memory runs out, or there is no restore of this number with everything
 -- read and taken.
-abbrev pub NoneDelivers : ℕ → List (Option Restore) → List (Option Restore) → StepFault → Type 0
+abbrev pub NoneDelivers : ℕ → List (Option OpenRestore) → List (Option OpenRestore) → StepFault → Type 0
 NoneDelivers number before after fault =
     AreSeenAs before after
     × ((fault ≡ Memory)
-    ⊎ ((fault ≡ NotEnabled) × ((r : Restore) → slice_get before number ≡ Some (Some r) → TellsWhole r false)))
+    ⊎ ((fault ≡ NotEnabled) × ((r : OpenRestore) → slice_get before number ≡ Some (Some r) → TellsWhole r false)))
 
 -- The restore of this number, with everything read and taken, gives its files, and is then over.
-abbrev pub OneDelivers : {X : Type 0} → (X → List Restored) → ℕ → List (Option Restore) → List (Option Restore) → Result X StepFault → Type 0
+abbrev pub OneDelivers : {X : Type 0} → (X → List Restored) → ℕ → List (Option OpenRestore) → List (Option OpenRestore) → Result X StepFault → Type 0
 OneDelivers said number before after (Ok given) =
-    (r : Restore) × (slice_get before number ≡ Some (Some r)) × TellsWhole r true × (said given ≡ files r.joiner.hits (Some r.plan.names))
+    (r : OpenRestore) × (slice_get before number ≡ Some (Some r)) × TellsWhole r true × (said given ≡ files r.joiner.hits (Some r.plan.names))
     × (after ≡ set before number None)
 OneDelivers said number before after (Err fault) = NoneDelivers number before after fault

@@ -7,8 +7,8 @@ use Rattle.br_model.specs.Plan as model
 use Rattle.br_match.specs.declared.hit.Batch.{Batch}
 use Rattle.br_join.specs.Joining.{Joining}
 use Rattle.br_core.specs.Statuses.{is_finished}
-use Rattle.br_core.specs.declared.status.Status.{Status}
-use Rattle.br_core.specs.declared.status.Status.TheVariants.{Waiting}
+use Rattle.br_core.specs.declared.piece_status.Status.{Status}
+use Rattle.br_core.specs.declared.piece_status.Status.TheVariants.{Waiting}
 
 -- The pieces are those of the plan, each with a status. The joiner has the names of the plan, and
 -- has closed the finished pieces. Each batch on its way is of one of the pieces.

@@ -12,8 +12,8 @@ use Rattle.br_core.specs.Machine.{Restore, stands}
 use Rattle.br_core.specs.Machine.Status.{Claimed}
 use Rattle.br_core.specs.declared.fault.StepFault.{StepFault}
 use Rattle.br_core.specs.declared.fault.StepFault.TheVariants.{Memory, NotEnabled}
-use Rattle.br_core.specs.declared.status.Status as code
-use Rattle.br_core.specs.declared.status.Status.TheVariants as at
+use Rattle.br_core.specs.declared.piece_status.Status as code
+use Rattle.br_core.specs.declared.piece_status.Status.TheVariants as at
 
 -- The volumes of the restore enclose a claimed piece, and its walk may have reached its address
 -- over them. Over these volumes, which extend them, its next step is the same. (This holds for

@@ -2,8 +2,8 @@
 use Rattle.std.specs.Prelude.{ℕ, Bool, true, false, Option, Some, None}
 use Rattle.br_core.specs.Machine as machine
 use Rattle.br_core.specs.Machine.Status.{Waiting, Claimed, Finished}
-use Rattle.br_core.specs.declared.status.Status.{Status}
-use Rattle.br_core.specs.declared.status.Status.TheVariants as code
+use Rattle.br_core.specs.declared.piece_status.Status.{Status}
+use Rattle.br_core.specs.declared.piece_status.Status.TheVariants as code
 
 -- the status of the relation
 abbrev pub status_of : Status → machine.Status

@@ -17,10 +17,10 @@ use Rattle.br_core.specs.View.{restore_of}
 use Rattle.br_core.specs.declared.event.Reply.{Reply}
 use Rattle.br_core.specs.declared.event.Reply.TheVariants as given
 use Rattle.br_core.specs.declared.fault.StepFault.{StepFault}
-use Rattle.br_core.specs.declared.restore.Restore.{Restore}
+use Rattle.br_core.specs.declared.restore.OpenRestore.{OpenRestore}
 
 -- the state of these jobs and volumes with some restores
-abbrev pub world_with : World → List (Option Restore) → World
+abbrev pub world_with : World → List (Option OpenRestore) → World
 world_with backups restores = record backups { restores = map (option_map (restore_of backups.jobs (stages_of backups))) restores }
 
 -- The step is one of the relation, with its reply. A refusal changes nothing, and the relation
@@ -43,7 +43,7 @@ pub record IsEventOf
 -- in every state with these restores, the event of this move of the restore of this number is a
 -- step
 abbrev pub StepsOfOne :
-    (machine.Restore → Type 0) → (machine.Restore → machine.Restore → Type 0) → ℕ → List (Option Restore) → List (Option Restore)
+    (machine.Restore → Type 0) → (machine.Restore → machine.Restore → Type 0) → ℕ → List (Option OpenRestore) → List (Option OpenRestore)
     → Result Reply StepFault → Type 0
 StepsOfOne Premise Move number before after result =
     (backups : World) (event : Event) → IsEventOf (world_with backups before) number event Premise Move
@@ -51,7 +51,7 @@ StepsOfOne Premise Move number before after result =
 
 -- The result of a plan before it has a number: the restore, just planned from the marks of the
 -- script, or the relation's refusal, unless memory ran out.
-abbrev pub PlansRestore : World → Request → List Command → Result Restore StepFault → Type 0
+abbrev pub PlansRestore : World → Request → List Command → Result OpenRestore StepFault → Type 0
 PlansRestore w q script (Ok r) =
     (marks : List (List ℕ)) × (plan : model.Plan) × (plan_for (rows_of_jobs w.jobs) q script ≡ Ok (marks, plan))
     × (restore_of w.jobs (stages_of w) r ≡ planned w q marks plan)
@@ -61,16 +61,16 @@ PlansRestore w q script (Err fault) = IfSome (cause fault) (λ n. plan_for (rows
 -- the state with these.
 abbrev pub CommitsBeside : World → ToCommit → World → Result Reply StepFault → Type 0
 CommitsBeside before job after result =
-    (restores : List (Option Restore)) → IsReached (world_with before restores)
+    (restores : List (Option OpenRestore)) → IsReached (world_with before restores)
     → TakesStep (world_with before restores) (Commit job) (world_with after restores) result
 
 -- the restores change by an event that leaves the jobs and the volumes
-abbrev pub RestoresStep : World → List (Option Restore) → Event → List (Option Restore) → Result Reply StepFault → Type 0
+abbrev pub RestoresStep : World → List (Option OpenRestore) → Event → List (Option OpenRestore) → Result Reply StepFault → Type 0
 RestoresStep backups before event after result = TakesStep (world_with backups before) event (world_with backups after) result
 
 -- The volumes after this number of commits, if the restore of the number is not over and was planned
 -- after no more commits.
-abbrev pub ShowsTo : World → List (Option Restore) → ℕ → ℕ → Option (List Volume) → Type 0
+abbrev pub ShowsTo : World → List (Option OpenRestore) → ℕ → ℕ → Option (List Volume) → Type 0
 ShowsTo backups restores number commits (Some volumes) =
     ((since : ℕ) × (commits_at (slice_get restores number) ≡ Some since) × (since ≤ commits))
     × (slice_get (stages_of backups) commits ≡ Some volumes)

@@ -13,7 +13,7 @@ use Rattle.br_core.specs.Reading.{CanBeRead}
 use Rattle.br_core.specs.Statuses.{status_of}
 use Rattle.br_core.specs.declared.fault.StepFault.{StepFault}
 use Rattle.br_core.specs.declared.fault.StepFault.TheVariants.{Memory, NotEnabled}
-use Rattle.br_core.specs.declared.restore.Restore.{Restore}
+use Rattle.br_core.specs.declared.restore.OpenRestore.{OpenRestore}
 
 -- the hits of a batch that is on its way, and those of some batches
 abbrev pub hits_of_batch : ℕ × Batch → List Hit
@@ -24,7 +24,7 @@ hits_of_batches batches = map hits_of_batch batches
 
 -- A restore. The number of commits determines the jobs and the volumes of its plan: jobs and stages
 -- are only appended to.
-abbrev pub restore_of : List Job → List (List Volume) → Restore → machine.Restore
+abbrev pub restore_of : List Job → List (List Volume) → OpenRestore → machine.Restore
 restore_of jobs stages r = record {
   jobs = take r.commits jobs;
   volumes = unwrap_or (slice_get stages r.commits) [];
@@ -38,11 +38,11 @@ restore_of jobs stages r = record {
 }
 
 -- the two correspond to one restore of the relation
-abbrev pub IsSeenAs : Restore → Restore → Type 0
+abbrev pub IsSeenAs : OpenRestore → OpenRestore → Type 0
 IsSeenAs before after = (jobs : List Job) (stages : List (List Volume)) → restore_of jobs stages after ≡ restore_of jobs stages before
 
 -- a restore that meets the premise can't make the move
-abbrev pub CannotMove : (machine.Restore → Type 0) → (machine.Restore → machine.Restore → Type 0) → Restore → Type 0
+abbrev pub CannotMove : (machine.Restore → Type 0) → (machine.Restore → machine.Restore → Type 0) → OpenRestore → Type 0
 CannotMove Premise Move r =
     (jobs : List Job) (stages : List (List Volume)) (after : machine.Restore)
     → Premise (restore_of jobs stages r) → Move (restore_of jobs stages r) after → ⊥
@@ -50,7 +50,7 @@ CannotMove Premise Move r =
 -- A restore that meets the premise makes the move, whatever its jobs and its volumes are. It is
 -- unchanged if memory runs out, or if it can't make the move.
 abbrev pub MovesIf :
-    (machine.Restore → Type 0) → (machine.Restore → machine.Restore → Type 0) → Restore → Restore → Result (Unit {0}) StepFault
+    (machine.Restore → Type 0) → (machine.Restore → machine.Restore → Type 0) → OpenRestore → OpenRestore → Result (Unit {0}) StepFault
     → Type 0
 MovesIf Premise Move before after (Ok _) =
     (jobs : List Job) (stages : List (List Volume))
@@ -59,7 +59,7 @@ MovesIf Premise Move before after (Err fault) =
     IsSeenAs before after × ((fault ≡ Memory) ⊎ ((fault ≡ NotEnabled) × CannotMove Premise Move before))
 
 -- a walk reads a block of a piece that can be read over these volumes
-abbrev pub ReadsIf : ℕ → List Volume → Restore → Restore → Result (Unit {0}) StepFault → Type 0
+abbrev pub ReadsIf : ℕ → List Volume → OpenRestore → OpenRestore → Result (Unit {0}) StepFault → Type 0
 ReadsIf piece shown = MovesIf (λ r. CanBeRead r piece shown) (λ r after. IsRead r piece shown after)
 
 -- a walk takes a waiting piece
@@ -75,16 +75,16 @@ abbrev pub Finishes : ℕ → List Volume → machine.Restore → machine.Restor
 Finishes piece shown r after = IsAtEnd r piece shown × (after ≡ goes r piece Finished)
 
 -- the walk of a piece that can be read over these volumes is at its end
-abbrev pub FinishesIf : ℕ → List Volume → Restore → Restore → Result (Unit {0}) StepFault → Type 0
+abbrev pub FinishesIf : ℕ → List Volume → OpenRestore → OpenRestore → Result (Unit {0}) StepFault → Type 0
 FinishesIf piece shown = MovesIf (λ r. CanBeRead r piece shown) (λ r after. Finishes piece shown r after)
 
 -- whether all pieces are read, and nothing is on its way
-abbrev pub TellsWhole : Restore → Bool → Type 0
+abbrev pub TellsWhole : OpenRestore → Bool → Type 0
 TellsWhole r true = (jobs : List Job) (stages : List (List Volume)) → IsWhole (restore_of jobs stages r)
 TellsWhole r false = (jobs : List Job) (stages : List (List Volume)) → IsWhole (restore_of jobs stages r) → ⊥
 
 -- a restore that was just planned, after this number of commits
-abbrev pub IsPlanned : ℕ → Request → List (List ℕ) → model.Plan → Restore → Type 0
+abbrev pub IsPlanned : ℕ → Request → List (List ℕ) → model.Plan → OpenRestore → Type 0
 IsPlanned commits request marks plan r =
     (w : machine.World) → length w.earlier ≡ commits → length w.jobs ≡ commits
     → restore_of w.jobs (stages_of w) r ≡ planned w request marks plan

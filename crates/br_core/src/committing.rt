@@ -1,15 +1,14 @@
-//! Jobs ready for a commit: their sessions and rows, and the blocks on the volumes.
-ghost use Rattle.std.specs.Prelude.{◌≡◌, ◌<◌, ◌^◌, map, IfOk, OnOk};
+//! Jobs as they are committed: their sessions and rows, and the blocks on the volumes.
+ghost use Rattle.std.specs.Prelude.{◌≡◌, map, IfOk, OnOk};
 ghost use Rattle.br_model.specs.Volume.{Extends};
 ghost use Rattle.br_model.specs.SessionHolds.{AreAppended};
 ghost use Rattle.br_volume.specs.Memory.{volumes_of};
 ghost use Rattle.br_volume.specs.Store.{AreAppendedInTurn};
 ghost use Rattle.br_core.specs.Machine.{lengths_of};
-ghost use Rattle.br_core.specs.Committing.{Prepares, WritesJob};
+ghost use Rattle.br_core.specs.Committing.{Prepares};
 
-use br_history::{History, HistoryFault, JobRows, SavedJob};
-use br_session::{SessionFault, Written, write_session};
-use br_types::{SessionKey, VolName};
+use br_history::{History, HistoryFault, JobRows, SavedJob, session_of};
+use br_types::VolName;
 use br_volume::{MemStore, VolumeStore, appends_add_up};
 use std::alloc::{AllocError, Global};
 
@@ -27,36 +26,6 @@ pub(crate) fn lengths(
     Ok(lengths)
 }
 
-/// Returns the session of a job, written to volumes of these lengths.
-fn written(
-    alloc: Global,
-    job: &SavedJob,
-    starts: &[(VolName, u64)],
-) -> Result<Written, HistoryFault>
-    ensures { WritesJob job.now starts.now result }
-{
-    let session = job.row().session;
-    match write_session(
-        alloc,
-        job.files(),
-        session,
-        job.limit(),
-        job.places(),
-        starts,
-    ) {
-        Ok(written) => Ok(written),
-        Err(SessionFault::BadRow) => Err(HistoryFault::BadRow),
-        // The files are in order, so memory ran out.
-        Err(_) => Err(HistoryFault::Memory),
-    }
-}
-
-/// States that the numbers of a session are of 32 bits.
-fn are_32_bits(session: SessionKey)
-    ensures id { session.id < 2 ^ 32 }
-    ensures time { session.time < 2 ^ 32 }
-{}
-
 /// Returns the rows of a job, and its blocks for volumes of these lengths, if it can be committed.
 /// A volume that is not named there is empty.
 ///
@@ -73,10 +42,7 @@ pub fn prepared(
     ensures { Prepares history.now job.now starts.now result }
 {
     history.check(job.row())?;
-    are_32_bits(job.row().session);
-    let Written { blocks, spans } = written(alloc, job, starts)?;
-    let rows = job.rows(alloc, &spans)?;
-    Ok((rows, blocks))
+    session_of(alloc, starts, job)
 }
 
 /// Appends blocks, each to its volume. After a refusal some may have been appended.

@@ -9,8 +9,8 @@ use br_plan::PlanFault;
 use std::alloc::AllocError;
 use thiserror::Error;
 
-/// The reason why a step was refused.
-#[derive(Clone, Copy, Debug, PartialEq, Eq, Error)]
+/// Why a step was refused.
+#[derive(Clone, Copy, Debug, Error)]
 pub enum StepFault {
     #[error("out of memory")]
     Memory,

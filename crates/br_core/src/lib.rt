@@ -5,12 +5,12 @@ mod backups;
 mod committing;
 mod event;
 mod fault;
+mod piece_status;
 mod planning;
 mod reading;
 mod restore;
 mod restores;
 mod running;
-mod status;
 mod steps;
 mod world;
 

@@ -6,10 +6,9 @@ ghost use Rattle.br_plan.specs.Fault.{cause};
 ghost use Rattle.br_core.specs.Machine.{plan_for};
 ghost use Rattle.br_core.specs.Planning.{after_command, after_script, console_after};
 
-use br_choose::choose;
 use br_history::History;
 use br_mark::{Command, Console, MarkFault};
-use br_plan::{Plan, PlanFault, Request};
+use br_plan::{JobSelection, Plan, PlanFault, Request};
 use br_tree::Tree;
 use br_types::Path;
 use br_view::View;
@@ -17,20 +16,10 @@ use std::alloc::{AllocError, Global};
 
 /// Returns the console over the view of the chosen jobs, at `/` and without marks.
 #[tactic(auto, unfolding(crate::specs::Planning::console_after))]
-fn console_over<'h>(
-    alloc: Global,
-    history: &'h History,
-    request: &Request,
-) -> Result<Console<'h>, PlanFault>
-    ensures { Answers (λ console. console) cause result (console_after history.now request.now []) }
+fn console_over<'h>(alloc: Global, asked: &JobSelection<'h>) -> Result<Console<'h>, PlanFault>
+    ensures { Answers (λ console. console) cause result (console_after asked.now.history asked.now.request []) }
 {
-    let jobs = choose(
-        alloc,
-        history,
-        &request.client,
-        &request.fileset,
-        request.moment,
-    )?;
+    let jobs = asked.jobs(alloc)?;
     let view = View::build(alloc, &jobs)?;
     let tree = Tree::build(alloc, view)?;
     Ok(Console::new(alloc, tree)?)
@@ -66,8 +55,9 @@ pub(crate) fn planned(
 ) -> Result<(Vec<Path>, Plan), PlanFault>
     ensures { Answers (λ p. (p.0.items, p.1)) cause result (plan_for history.now request.now (map said script.now)) }
 {
-    let mut console = console_over(alloc, history, request)?;
+    let asked = JobSelection::new(alloc, history, request);
+    let mut console = console_over(alloc, &asked)?;
     run_script(&mut console, script)?;
-    let plan = Plan::for_marked(alloc, history, request, console.tree())?;
+    let plan = Plan::for_marked(alloc, &asked, console.tree())?;
     Ok((console.marked(alloc)?, plan))
 }

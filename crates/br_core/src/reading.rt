@@ -4,7 +4,7 @@ ghost use Rattle.br_match.specs.Fault as matching;
 ghost use Rattle.br_core.specs.Reading.{IsClaimed, IsReadFault, ReadsNext, ReadsPiece};
 
 use crate::fault::StepFault;
-use crate::status::{Status, status_at};
+use crate::piece_status::{Status, status_at};
 use br_match::{Batch, PieceFault, Walk};
 use br_piece::Piece;
 use br_types::VolName;

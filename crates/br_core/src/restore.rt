@@ -2,8 +2,8 @@ ghost use Rattle.std.specs.Prelude.{◌≡◌, ⊤, IfOk};
 ghost use Rattle.br_core.specs.Parts.{AreFirst, AreParts};
 
 use crate::fault::StepFault;
+use crate::piece_status::{Status, address_at, all_finished, all_waiting, waits};
 use crate::reading::next_of;
-use crate::status::{Status, address_at, all_finished, all_waiting, waits};
 use br_join::{Joiner, Outcome};
 use br_match::Batch;
 use br_piece::{Piece, split};
@@ -15,7 +15,7 @@ use std::thread::Threads;
 /// A restore that is not over. Its jobs and volumes are those that the world had after `commits`
 /// commits.
 #[derive(Drop)]
-pub(crate) struct Restore {
+pub(crate) struct OpenRestore {
     pub(crate) commits: u64,
     request: Request,
     marks: Vec<Path>,
@@ -51,7 +51,7 @@ fn parts_of(alloc: Global, plan: &Plan) -> Result<(Vec<Piece>, Vec<Status>, Join
     Ok((pieces, statuses, joiner))
 }
 
-impl Restore {
+impl OpenRestore {
     ghost use Rattle.br_volume.specs.Memory.{volumes_of};
     ghost use Rattle.br_core.specs.Machine.{IsTaken};
     ghost use Rattle.br_core.specs.View.{Claims, Fails, FinishesIf, IsPlanned, IsSeenAs, MovesIf, ReadsIf, TellsWhole};
@@ -67,11 +67,11 @@ impl Restore {
         request: Request,
         marks: Vec<Path>,
         plan: Plan,
-    ) -> Result<Restore, AllocError>
+    ) -> Result<OpenRestore, AllocError>
         ensures { IfOk result (IsPlanned commits request marks.items plan) }
     {
         let (pieces, statuses, joiner) = parts_of(alloc, &plan)?;
-        Ok(Restore {
+        Ok(OpenRestore {
             commits,
             request,
             marks,
@@ -195,12 +195,12 @@ impl Restore {
     pub(crate) fn deliver(
         self,
         rt: &(impl Threads + Sync),
-    ) -> Result<Vec<(FileKey, Outcome)>, Restore>
+    ) -> Result<Vec<(FileKey, Outcome)>, OpenRestore>
         requires { TellsWhole self true }
         ensures given { IfOk result (λ outcomes. map restored outcomes.items ≡ files self.joiner.hits (Some self.plan.names)) }
         ensures back { IfErr result (λ r. IsSeenAs self r) }
     {
-        let Restore {
+        let OpenRestore {
             commits,
             request,
             marks,
@@ -212,7 +212,7 @@ impl Restore {
         } = self;
         match joiner.finish(rt) {
             Ok(outcomes) => Ok(outcomes),
-            Err(_) => Err(Restore {
+            Err(_) => Err(OpenRestore {
                 commits,
                 request,
                 marks,

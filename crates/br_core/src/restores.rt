@@ -5,7 +5,7 @@ ghost use Rattle.br_core.specs.Stepping.{StepsOfOne};
 
 use crate::event::Reply;
 use crate::fault::StepFault;
-use crate::restore::{Move, Restore};
+use crate::restore::{Move, OpenRestore};
 use br_join::Outcome;
 use br_types::FileKey;
 use std::alloc::{AllocError, Global};
@@ -14,7 +14,7 @@ use std::thread::Threads;
 /// Makes a move of the restore with this number, if there is one that is not over.
 pub(crate) fn go(
     alloc: Global,
-    restores: &mut Vec<Option<Restore>>,
+    restores: &mut Vec<Option<OpenRestore>>,
     number: u64,
     what: Move<'_>,
 ) -> Result<(), StepFault>
@@ -35,7 +35,7 @@ pub(crate) fn go(
 /// the move.
 pub(crate) fn step_of_one(
     alloc: Global,
-    restores: &mut Vec<Option<Restore>>,
+    restores: &mut Vec<Option<OpenRestore>>,
     number: u64,
     what: Move<'_>,
 ) -> Result<Reply, StepFault>
@@ -48,7 +48,10 @@ pub(crate) fn step_of_one(
 }
 
 /// Adds a restore, and returns its number, which is the next one.
-pub(crate) fn add(restores: &mut Vec<Option<Restore>>, restore: Restore) -> Result<u64, AllocError>
+pub(crate) fn add(
+    restores: &mut Vec<Option<OpenRestore>>,
+    restore: OpenRestore,
+) -> Result<u64, AllocError>
     ensures number { IfOk result (λ number. number ≡ length restores.old.items) }
     ensures ok { OnOk result (restores.new.items ≡ restores.old.items ++ Some restore ∷ []) }
     ensures err { OnErr result (restores.new.items ≡ restores.old.items) }
@@ -61,7 +64,7 @@ pub(crate) fn add(restores: &mut Vec<Option<Restore>>, restore: Restore) -> Resu
 /// Returns the files of the restore with this number, if all is read and taken. It is then over.
 pub(crate) fn deliver(
     rt: &(impl Threads + Sync),
-    restores: &mut Vec<Option<Restore>>,
+    restores: &mut Vec<Option<OpenRestore>>,
     number: u64,
 ) -> Result<Vec<(FileKey, Outcome)>, StepFault>
     ensures { OneDelivers (λ outcomes. map restored outcomes.items) number restores.old.items restores.new.items result }
@@ -87,7 +90,7 @@ pub(crate) fn deliver(
 
 /// Returns the number of commits before the plan of the restore with this number, if there is one
 /// that is not over.
-pub(crate) fn commits_of(restores: &[Option<Restore>], number: u64) -> Option<u64>
+pub(crate) fn commits_of(restores: &[Option<OpenRestore>], number: u64) -> Option<u64>
     ensures { result ≡ commits_at (slice_get restores.now number) }
 {
     match restores.get(number as usize) {

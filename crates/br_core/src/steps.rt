@@ -12,7 +12,7 @@ use crate::backups::Backups;
 use crate::event::{Event, Reply};
 use crate::fault::StepFault;
 use crate::planning::planned;
-use crate::restore::{Move, Restore};
+use crate::restore::{Move, OpenRestore};
 use crate::restores::{add, commits_of, deliver, step_of_one};
 use br_history::SavedJob;
 use br_mark::Command;
@@ -36,18 +36,18 @@ fn planned_now(
     backups: &Backups,
     request: Request,
     script: &[Command],
-) -> Result<Restore, StepFault>
+) -> Result<OpenRestore, StepFault>
     ensures { PlansRestore backups.now request (map said script.now) result }
 {
     let (marks, plan) = planned(alloc, backups.history(), &request, script)?;
-    Ok(Restore::new(alloc, backups.len(), request, marks, plan)?)
+    Ok(OpenRestore::new(alloc, backups.len(), request, marks, plan)?)
 }
 
 /// Plans a restore of a script's marks.
 fn plan_restore(
     alloc: Global,
     backups: &Backups,
-    restores: &mut Vec<Option<Restore>>,
+    restores: &mut Vec<Option<OpenRestore>>,
     request: Request,
     script: &[Command],
 ) -> Result<Reply, StepFault>
@@ -61,7 +61,7 @@ fn plan_restore(
 /// was planned after no more commits.
 fn shown<'b>(
     backups: &'b Backups,
-    restores: &[Option<Restore>],
+    restores: &[Option<OpenRestore>],
     number: u64,
     commits: u64,
 ) -> Option<&'b [(VolName, Vec<u8>)]>
@@ -81,7 +81,7 @@ fn shown<'b>(
 fn read_piece(
     alloc: Global,
     backups: &Backups,
-    restores: &mut Vec<Option<Restore>>,
+    restores: &mut Vec<Option<OpenRestore>>,
     number: u64,
     piece: u32,
     commits: u64,
@@ -99,7 +99,7 @@ fn read_piece(
 fn finish_piece(
     alloc: Global,
     backups: &Backups,
-    restores: &mut Vec<Option<Restore>>,
+    restores: &mut Vec<Option<OpenRestore>>,
     number: u64,
     piece: u32,
 ) -> Result<Reply, StepFault>
@@ -119,7 +119,7 @@ fn finish_piece(
 fn deliver_files(
     rt: &(impl Threads + Sync),
     backups: &Backups,
-    restores: &mut Vec<Option<Restore>>,
+    restores: &mut Vec<Option<OpenRestore>>,
     number: u64,
 ) -> Result<Reply, StepFault>
     ensures { RestoresStep backups.now restores.old.items (Deliver number) restores.new.items result }
@@ -135,7 +135,7 @@ pub(crate) fn take_step(
     rt: &(impl Threads + Sync),
     alloc: Global,
     backups: &mut Backups,
-    restores: &mut Vec<Option<Restore>>,
+    restores: &mut Vec<Option<OpenRestore>>,
     event: Event,
 ) -> Result<Reply, StepFault>
     requires { IsReached (world_with backups.old restores.old.items) }

@@ -8,7 +8,7 @@ ghost use Rattle.br_core.specs.Stepping.{TakesStep};
 use crate::backups::Backups;
 use crate::event::{Event, Reply};
 use crate::fault::StepFault;
-use crate::restore::Restore;
+use crate::restore::OpenRestore;
 use crate::steps::take_step;
 use std::alloc::Global;
 use std::marker::Model;
@@ -20,7 +20,7 @@ pub struct World {
     alloc: Global,
     backups: Backups,
     /// None for a restore that is over.
-    restores: Vec<Option<Restore>>,
+    restores: Vec<Option<OpenRestore>>,
 }
 
 impl Model for World {

@@ -29,7 +29,7 @@ pub of_earlier : (earlier later : Option (List Volume)) (name : List ℕ) (a : �
 of_earlier earlier later name a P grown all volumes block shows is = all volumes block (shows_more earlier later volumes grown shows) is
 
 -- at an end there is no block
-pub none_at_end : (shown : Option (List Volume)) (name : List ℕ) (a s : ℕ) (buffer : List ℕ) → AnswersOver shown name a s buffer (Ok End) → OfBlock shown name a (λ block. ⊥)
+pub none_at_end : (shown : Option (List Volume)) (name : List ℕ) (a s : ℕ) (buffer : List ℕ) → AnswersOver shown name (a, s) buffer (Ok End) → OfBlock shown name a (λ block. ⊥)
 none_at_end None name a s buffer answers volumes block shows is = absurd shows
 none_at_end (Some shown) name a s buffer answers volumes block shows is =
     let e = shown_end shown name a s answers in
@@ -43,7 +43,7 @@ some_is_not_none : {A : Type 0} {x : A} → Some x ≡ None → ⊥
 some_is_not_none e = absurd cc
 
 -- if there is no volume, there is no block
-pub none_if_unknown : (shown : Option (List Volume)) (name : List ℕ) (a s : ℕ) (buffer : List ℕ) → AnswersOver shown name a s buffer (Err UnknownVolume) → OfBlock shown name a (λ block. ⊥)
+pub none_if_unknown : (shown : Option (List Volume)) (name : List ℕ) (a s : ℕ) (buffer : List ℕ) → AnswersOver shown name (a, s) buffer (Err UnknownVolume) → OfBlock shown name a (λ block. ⊥)
 none_if_unknown None name a s buffer answers volumes block shows is = absurd shows
 none_if_unknown (Some shown) name a s buffer answers volumes block shows is =
     let there = block_stays volumes shown name a block shows is in
@@ -56,7 +56,7 @@ front_of xs block e =
     (drop h.0.size xs, sym (take-append-drop h.0.size xs) ∙ ap (λ (front : List ℕ). front ++ drop h.0.size xs) h.3)
 
 -- a read gives the first bytes of the block
-pub first_read : (shown : Option (List Volume)) (name : List ℕ) (a s n : ℕ) (buffer : List ℕ) → AnswersOver shown name a s buffer (Ok (Block n)) → HasFirst shown name a s buffer
+pub first_read : (shown : Option (List Volume)) (name : List ℕ) (a s n : ℕ) (buffer : List ℕ) → AnswersOver shown name (a, s) buffer (Ok (Block n)) → HasFirst shown name a s buffer
 first_read None name a s n buffer answers volumes block shows is = absurd shows
 first_read (Some shown) name a s n buffer answers volumes block shows is =
     let e = shown_block shown name a s buffer answers in
@@ -125,7 +125,7 @@ whole_first earlier later name a s buffer grown long first volumes block shows i
     f.1 ∙ take_at block f.0 s n
 
 -- what a read gives is the first of the volume's bytes there
-pub shows_first : (shown : Option (List Volume)) (name : List ℕ) (a s n : ℕ) (buffer : List ℕ) → AnswersOver shown name a s buffer (Ok (Block n)) → ShowsFirst shown name a s buffer
+pub shows_first : (shown : Option (List Volume)) (name : List ℕ) (a s n : ℕ) (buffer : List ℕ) → AnswersOver shown name (a, s) buffer (Ok (Block n)) → ShowsFirst shown name a s buffer
 shows_first None name a s n buffer answers = tt
 shows_first (Some shown) name a s n buffer answers =
     let e = shown_block shown name a s buffer answers in (e.0, e.1, sym e.3)

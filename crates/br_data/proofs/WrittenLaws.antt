@@ -1,10 +1,11 @@
 -- What several writes append, one after the other.
-use Rattle.std.proofs.Common.{◌≡◌, ℕ, ◌+◌, ◌-◌, ◌≤◌, List, [], ◌++◌, length, take, drop, min, replicate, refl, sym, ap, subst, ◌∙◌, arith, append_assoc, Option, Some, None, Result, Ok, Err, IfOk, OnErr}
+use Rattle.std.proofs.Common.{◌≡◌, ℕ, ◌+◌, ◌-◌, ◌≤◌, List, [], ◌++◌, length, take, drop, min, refl, sym, ap, subst, ◌∙◌, arith, append_assoc, Option, Some, None, Result, Ok, Err, IfOk, OnErr}
 use Rattle.std.proofs.Math.Seq.{take-add}
 use Rattle.std.proofs.lemmas.List.{append-nil, take-append-drop, take_all, take-take, take-replicate, replicate-append-replicate, length-replicate}
 use Rattle.std.specs.Io.KnownBytes.{Appends, Keeps, WriteAppends}
 use Rattle.std.proofs.KnownBytes.{Appends-nil, Appends-trans}
 use Rattle.br_data.specs.BodyWritten.{AppendsFront}
+use Rattle.br_data.proofs.BodyPartLaws.{zeros}
 
 -- ---- one write
 
@@ -60,9 +61,6 @@ pub none_front : (a : Option (List ℕ)) (bytes : List ℕ) → AppendsFront a a
 none_front a bytes = ([], bytes, refl, Appends-nil a)
 
 -- ---- zeros
-
-abbrev pub zeros : ℕ → List ℕ
-zeros n = replicate n 0
 
 -- the first zeros of a block of them
 first_zeros : (left next n : ℕ) (some : List ℕ) → next ≡ min left 4096 → some ≡ take next (zeros 4096) → n ≤ length some → take n some ≡ zeros n

@@ -108,7 +108,7 @@ fn push_data(bytes: &mut Vec<u8>, kept: &Data, skip: usize) -> Result<(), AllocE
 }
 
 /// Appends `count` zeros to the bytes.
-fn push_zeros(bytes: &mut Vec<u8>, count: usize) -> Result<(), AllocError>
+pub fn push_zeros(bytes: &mut Vec<u8>, count: usize) -> Result<(), AllocError>
     ensures { OnOk result (bytes.new.items ≡ bytes.old.items ++ replicate count 0) }
 {
     match bytes.len().checked_add(count) {

@@ -43,6 +43,7 @@ pub trait Fetch {
 pub struct InMemory;
 
 impl Fetch for InMemory {
+    // Holds of all data: `prepare` refuses those whose bytes are not held.
     ghost gives = { λ _ _ _. ⊤ };
 
     ghost ready = { λ _ _ kept. held_bytes kept };

@@ -31,7 +31,7 @@ mod spot;
 
 ghost use Rattle.br_data.specs.StandingHits.{HitsStand, StandingStays, StandsOnce};
 
-pub use body_part::{Part, push_found, push_gap};
+pub use body_part::{Part, push_found, push_gap, push_zeros};
 pub use body_reading::Reading;
 pub use body_writing::write_bytes;
 pub use data::Data;

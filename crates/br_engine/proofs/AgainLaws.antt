@@ -36,7 +36,7 @@ use Rattle.br_engine.specs.Fault.{IsNoDriveLeft, IsUnmade, OfAgain, fault_number
 use Rattle.br_engine.specs.Restoring.{AllStand, JoinsOver, Told}
 use Rattle.br_engine.specs.declared.fault.ExtractFault.{ExtractFault}
 use Rattle.br_engine.specs.declared.fault.ExtractFault.TheVariants as fault
-use Rattle.br_engine.specs.declared.made.Made.{Made}
+use Rattle.br_engine.specs.declared.made.MadeFiles.{MadeFiles}
 use Rattle.br_engine.proofs.DeliverLaws.{free_is_no_drive}
 use Rattle.br_engine.proofs.ExtractLaws.{gives_files}
 use Rattle.br_engine.proofs.JoinLaws.{files_of_hits}
@@ -196,7 +196,7 @@ module _ {D : Type 0} (shows : D → Option (List Volume)) (failures : D → ℕ
       reread shows failures stand stays groups volumes xs ys found (midst volumes stands) first (means volumes (midst volumes stands) ∙ ap Ok (sym same)) sorted
 
   -- the files are those of the bootstrap
-  pub made_files : (names : Option Names) (result : Result Made ExtractFault) → joining.names ≡ names
+  pub made_files : (names : Option Names) (result : Result MadeFiles ExtractFault) → joining.names ≡ names
       → IfOk result (MadeOver (CanReread shows failures ys groups joining.hits) joining) → IfErr result IsUnmade → MakesOver shows xs zs groups names result
   made_files names (Err f) named made unmade = unmade_gives (map shows xs) (map shows zs) groups (option_map planned_in names) f unmade
   made_files names (Ok m) named made unmade = λ volumes stands.
@@ -206,9 +206,9 @@ module _ {D : Type 0} (shows : D → Option (List Volume)) (failures : D → ℕ
       (subst (λ (n : Option Names). map restored m.outcomes.items ≡ files joining.hits (option_map planned_in n)) named rs) tt) volumes stands
 
   -- and they can be made once more
-  pub made_gives : (result : Result Made ExtractFault)
-      → IfOk result (λ (m : Made). CanReread shows failures ys groups joining.hits → CanGive shows failures zs groups m.gathered (map restored m.outcomes.items))
-      → IfOk result (λ (m : Made). GivesAgain shows failures xs zs groups m)
+  pub made_gives : (result : Result MadeFiles ExtractFault)
+      → IfOk result (λ (m : MadeFiles). CanReread shows failures ys groups joining.hits → CanGive shows failures zs groups m.gathered (map restored m.outcomes.items))
+      → IfOk result (λ (m : MadeFiles). GivesAgain shows failures xs zs groups m)
   made_gives (Err f) gives = tt
   made_gives (Ok m) gives = λ volumes stands. gives (can_reread volumes stands)
 

@@ -14,8 +14,9 @@ use Rattle.br_engine.specs.Outputs.{InSink, end_of_files}
 use Rattle.br_engine.specs.declared.restore_end.RestoreEnd.{RestoreEnd}
 use Rattle.br_engine.specs.declared.restore_end.RestoreEnd.TheVariants.{AllFiles, SomeFaults, Stopped}
 use Rattle.br_engine.proofs.DeliverLaws.{ends_whole}
-use Rattle.br_engine.proofs.StopLaws.{length_taken, take_whole}
 use Rattle.br_engine.proofs.LikeLaws.{all_themselves, like_length, same_delivery, same_files, same_stop, same_totals, with_items, with_like, with_put, with_same}
+use Rattle.std.proofs.Math.Seq.{take-length}
+use Rattle.std.proofs.lemmas.List.{length-take-le}
 
 drop_whole : {X : Type 0} (xs : List X) (n : ℕ) → length xs ≤ n → drop n xs ≡ []
 drop_whole [] zero few = refl
@@ -37,7 +38,7 @@ pub all_put : (given : Type 0) (had has : Option (List Item)) (os : List Restore
 all_put given had has os end puts all is =
     let items = items_of os in
     let n = length items in
-    let front : AllZip IsLike puts.put (take n items) = subst (λ (is : List Item). AllZip IsLike puts.put is) (sym (take_whole items)) puts.like in
+    let front : AllZip IsLike puts.put (take n items) = subst (λ (is : List Item). AllZip IsLike puts.put is) (sym (take-length items)) puts.like in
     let rs = with_items os puts.put in
     let like = with_like os puts.put n front in
     let many : length puts.put ≡ n = like_length puts.put items puts.like in
@@ -46,7 +47,7 @@ all_put given had has os end puts all is =
     record {
       rs = rs;
       like = like;
-      same = λ given. with_same os puts.put n (puts.same given ∙ sym (take_whole items));
+      same = λ given. with_same os puts.put n (puts.same given ∙ sym (take-length items));
       ends =
           ends_whole (Some had) (Some has) rs end (is ∙ sym (ap (λ (b : Bool). cond b AllFiles SomeFaults) (same_files rs os like)))
           (same_delivery rs os like ∙ all ∙ sym (ap Ok (same_totals rs os like)), subst (λ (is : List Item). HasMore is had has) (sym of_rs) puts.more);
@@ -61,7 +62,7 @@ some_put given had has os stop puts refused is =
     let rs = with_items os puts.put in
     let like = with_like os puts.put n puts.like in
     let few = is.within in
-    let many : length puts.put ≡ n = like_length puts.put (take n items) puts.like ∙ length_taken n items (omega (arith, few)) in
+    let many : length puts.put ≡ n = like_length puts.put (take n items) puts.like ∙ length-take-le n items (omega (arith, few)) in
     let of_rs : take n (items_of rs) ≡ puts.put =
     ap (take n) (with_put os puts.put n puts.like) ∙ ap (λ (k : ℕ). take k (puts.put ++ drop (length puts.put) items)) (sym many) ∙ take_front puts.put _ in
     record {

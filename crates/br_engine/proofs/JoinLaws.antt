@@ -26,7 +26,7 @@ fresh_is_made shown pieces names j same is =
 
 -- it has the hits of the bootstrap
 pub joined_found : (earlier later : Told) (groups : List Group) (pieces : List Piece) (hits : Hits) → pieces ≡ pieces_of groups
-    → StreamsOver earlier later pieces (hits_of []) hits (Ok tt) → (volumes : List Volume) → AllStand earlier later (pieces_of groups) volumes → meaning groups volumes ≡ Ok hits
+    → StreamsOver (earlier, later) pieces (hits_of []) hits (Ok tt) → (volumes : List Volume) → AllStand earlier later (pieces_of groups) volumes → meaning groups volumes ≡ Ok hits
 unfolding meaning
 joined_found earlier later groups pieces hits are given volumes stands =
     let s = given volumes (subst (λ (ps : List Piece). AllStand earlier later ps volumes) (sym are) stands) in
@@ -35,7 +35,7 @@ joined_found earlier later groups pieces hits are given volumes stands =
 
 -- or one of the pieces has a fault
 pub joined_refused : (earlier later : Told) (groups : List Group) (pieces : List Piece) (held hits : Hits) (fault : PoolFault) → pieces ≡ pieces_of groups
-    → StreamsOver earlier later pieces held hits (Err fault) → (volumes : List Volume) → AllStand earlier later (pieces_of groups) volumes
+    → StreamsOver (earlier, later) pieces held hits (Err fault) → (volumes : List Volume) → AllStand earlier later (pieces_of groups) volumes
     → IsRefusal (pool.cause fault) (meaning groups volumes)
 unfolding meaning
 joined_refused earlier later groups pieces held hits fault are given volumes stands =

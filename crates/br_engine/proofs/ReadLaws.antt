@@ -3,7 +3,7 @@ use Rattle.std.proofs.Common.{◌≡◌, ◌<◌, ◌≤◌, ◌+◌, ◌-◌, �
 use Rattle.std.specs.Io.KnownBytes.{Consumes}
 use Rattle.std.specs.List.{list_any, slice_split}
 use Rattle.std.specs.Str.Lines.{lines, lines_of_parts, strip_carriage_return}
-use Rattle.std.proofs.lemmas.Bool.{and_parts, ne_eqb}
+use Rattle.std.proofs.lemmas.Bool.{and_parts, ne_eqb, or_parts}
 use Rattle.std.proofs.lemmas.Bool.Decides.{nat_tests}
 use Rattle.std.proofs.lemmas.List.{length-take-le}
 use Rattle.std.proofs.lemmas.List.Folds.{list_any-append}
@@ -36,20 +36,16 @@ cut (c ∷ cs) e = go (is_line_end c) refl e (λ k. cut cs k)
         let rest = again (rw is at h) in
         record { front = c ∷ rest.front; back = rest.back; joined = ap (λ (l : List ℕ). c ∷ l) rest.joined; none = rw (is, rest.none) refl }
 
-any_parts : (a b : Bool) → (a || b) ≡ false → (a ≡ false) × (b ≡ false)
-any_parts true b e = absurd cc
-any_parts false b e = (refl, e)
-
 -- the parts of a text that is cut at its first LF
 split_behind : (front back : List ℕ) → list_any is_line_end front ≡ false
     → slice_split is_line_end (front ++ 10 ∷ back) ≡ front ∷ slice_split is_line_end back
 split_behind [] back e = refl
-split_behind (c ∷ cs) back e = let parts = any_parts (is_line_end c) (list_any is_line_end cs) e in
+split_behind (c ∷ cs) back e = let parts = or_parts (is_line_end c) (list_any is_line_end cs) e in
     let rest = split_behind cs back parts.1 in rw (parts.0, rest) refl
 
 split_nowhere : (text : List ℕ) → list_any is_line_end text ≡ false → slice_split is_line_end text ≡ text ∷ []
 split_nowhere [] e = refl
-split_nowhere (c ∷ cs) e = let parts = any_parts (is_line_end c) (list_any is_line_end cs) e in
+split_nowhere (c ∷ cs) e = let parts = or_parts (is_line_end c) (list_any is_line_end cs) e in
     let rest = split_nowhere cs parts.1 in rw (parts.0, rest) refl
 
 parts_more : (x : List ℕ) (parts : List (List ℕ)) → 0 < length parts → lines_of_parts (x ∷ parts) ≡ strip_carriage_return x ∷ lines_of_parts parts

@@ -1,9 +1,8 @@
 -- Where a delivery stops whose files are made once more, and what was put by then.
-use Rattle.std.proofs.Common.{◌≡◌, ◌≤◌, ◌<◌, ◌+◌, ◌-◌, ℕ, zero, suc, cond, List, [], ◌∷◌, ◌++◌, length, map, take, drop, Option, Result, Ok, Err, refl, ap, sym, subst, arith, ◌∙◌, inl, inr}
-use Rattle.std.specs.Prelude.{IfErr, count_by, is_ok}
+use Rattle.std.proofs.Common.{◌≡◌, ◌≤◌, ◌<◌, ◌+◌, ◌-◌, ℕ, zero, suc, List, [], ◌∷◌, ◌++◌, length, map, take, drop, Option, Result, Ok, Err, refl, ap, sym, subst, arith, ◌∙◌, inl, inr}
+use Rattle.std.specs.Prelude.{IfErr}
 use Rattle.std.specs.List.{AllZip}
-use Rattle.std.proofs.lemmas.List.{append_assoc, length-map, take-append-drop}
-use Rattle.std.proofs.lemmas.List.Sums.{count_by-le-length, sum_by-cons}
+use Rattle.std.proofs.lemmas.List.{append_assoc, take-append-drop, take-append-le, length-take-le}
 use Rattle.br_model.specs.Answer.{IsRefusal}
 use Rattle.br_model.specs.Delivery.{Stop, delivery}
 use Rattle.br_model.specs.File as file
@@ -31,7 +30,9 @@ use Rattle.br_data.specs.declared.reread_fault.AgainFault.{AgainFault}
 use Rattle.br_data.specs.declared.reread_fault.AgainFault.TheVariants as again
 use Rattle.br_engine.specs.DeliveredAgain.{CanMake, IsStopAgain, PutsLike, PutsTwoAgain, again_number, keyed}
 use Rattle.br_engine.specs.Delivering.{items_of}
-use Rattle.br_engine.proofs.LikeLaws.{items_fault, items_file, like_length, like_take}
+use Rattle.br_engine.proofs.LikeLaws.{like_length, like_take}
+use Rattle.std.proofs.Math.Seq.{take-add, take-append-add, take-length}
+use Rattle.br_sink.proofs.PassingLaws.{counted}
 
 -- ---- the stop
 
@@ -66,12 +67,6 @@ like_both [] ys (u ∷ us) vs p q = absurd p
 like_both (x ∷ xs) ys [] vs p q = absurd p
 like_both (x ∷ xs) ys (u ∷ us) vs p q = (p.0, like_both xs ys us vs p.1 q)
 
-take_behind : {X : Type 0} (xs ys : List X) (n : ℕ) → take (length xs + n) (xs ++ ys) ≡ xs ++ take n ys
-take_behind [] ys n = ap (λ (k : ℕ). take k ys) (omega arith)
-take_behind (x ∷ xs) ys n =
-    let more : length (x ∷ xs) + n ≡ suc (length xs + n) = omega arith in
-    ap (λ (k : ℕ). take k (x ∷ (xs ++ ys))) more ∙ ap (λ (zs : List _). x ∷ zs) (take_behind xs ys n)
-
 -- nothing was put of no files
 pub none_put : (given : Type 0) (has : Option (List Item)) → PutsLike {A = Unit {0}} given [] has has (Ok tt)
 none_put given has = record { put = []; like = tt; same = λ _. refl; more = none_more has }
@@ -92,17 +87,12 @@ pub puts_stop : (given : Type 0) (xs ys zs : List Item) (had mid has : Option (L
     → PutsLike {A = Unit {0}} given (xs ++ (ys ++ zs)) had has (Err (record { number = number; done = length xs + done }))
 puts_stop given xs ys zs had mid has number done p q few =
     let all : take (length xs + done) (xs ++ (ys ++ zs)) ≡ xs ++ take done ys =
-    take_behind xs (ys ++ zs) done ∙ ap (λ (is : List Item). xs ++ is) (take_within ys zs done few) in record {
+    take-append-add xs (ys ++ zs) done ∙ ap (λ (is : List Item). xs ++ is) (take-append-le done ys zs few) in record {
       put = p.put ++ q.put;
       like = subst (AllZip IsLike (p.put ++ q.put)) (sym all) (like_both p.put q.put xs (take done ys) p.like q.like);
       same = λ g. (λ i. p.same g i ++ q.same g i) ∙ sym all;
       more = more_behind p.put q.put had mid has p.more q.more;
     }
-  where
-    take_within : (xs ys : List Item) (n : ℕ) → n ≤ length xs → take n (xs ++ ys) ≡ take n xs
-    take_within xs ys zero few = refl
-    take_within [] ys (suc n) few = absurd (omega (arith, few))
-    take_within (x ∷ xs) ys (suc n) few = ap (λ (is : List Item). x ∷ is) (take_within xs ys n (omega (arith, few)))
 
 -- ---- files that were made once more together
 
@@ -145,10 +135,6 @@ pub puts_if : {A : Type 0} (given less : Type 0) (items : List Item) (had has : 
     → PutsLike given items had has r
 puts_if given less items had has r so puts = record { put = puts.put; like = puts.like; same = λ g. puts.same (so g); more = puts.more }
 
-pub take_whole : {X : Type 0} (xs : List X) → take (length xs) xs ≡ xs
-take_whole [] = refl
-take_whole (x ∷ xs) = ap (λ (ys : List _). x ∷ ys) (take_whole xs)
-
 -- a stop among the first outcomes is one among all
 pub puts_fewer : (given less : Type 0) (os : List (FileKey × Outcome)) (place : ℕ) (had has : Option (List Item)) (stop : Stop) → (given → less)
     → IsStopAgain (length (items_in (take place os))) stop → PutsLike {A = Unit {0}} less (items_in (take place os)) had has (Err stop)
@@ -162,83 +148,32 @@ pub puts_before : (given less : Type 0) (os : List (FileKey × Outcome)) (place 
     → PutsLike {A = Unit {0}} less (items_in (take place os)) had has (Ok tt) → PutsLike {A = Unit {0}} given (items_in os) had has (Err (record { number = number; done = files }))
 puts_before given less os place files number had has so stands puts =
     let e : take files (items_in os) ≡ items_in (take place os) =
-    ap (λ (n : ℕ). take n (items_in os)) stands.many ∙ taken_items os place (length (items_in (take place os))) (omega arith) ∙ take_whole (items_in (take place os)) in
+    ap (λ (n : ℕ). take n (items_in os)) stands.many ∙ taken_items os place (length (items_in (take place os))) (omega arith) ∙ take-length (items_in (take place os)) in
     record { put = puts.put; like = subst (AllZip IsLike puts.put) (sym e) puts.like; same = λ g. puts.same (so g) ∙ sym e; more = puts.more }
 
 -- ---- the files among outcomes
-
-counted : (rs : List Restored) → count_by (λ (r : Restored). is_ok r.outcome) rs ≡ length (items_of rs)
-counted [] = refl
-counted (r ∷ rs) = sum_by-cons (λ (r : Restored). cond (is_ok r.outcome) 1 0) r rs ∙ go r.outcome refl (counted rs)
-  where
-    go : (a : file.Outcome) → r.outcome ≡ a → count_by (λ (r : Restored). is_ok r.outcome) rs ≡ length (items_of rs)
-        → cond (is_ok r.outcome) 1 0 + count_by (λ (r : Restored). is_ok r.outcome) rs ≡ length (items_of (r ∷ rs))
-    go (Ok item) e more =
-        let one : ◌≡◌ {A = ℕ} (cond (is_ok r.outcome) 1 0) 1 = rw e refl in
-        let longer = ap length (items_file r rs item e) in
-        omega (arith, one, more, longer)
-    go (Err f) e more =
-        let none : ◌≡◌ {A = ℕ} (cond (is_ok r.outcome) 1 0) 0 = rw e refl in
-        let same = ap length (items_fault r rs f e) in
-        omega (arith, none, more, same)
 
 -- their number is that of the totals
 pub files_counted : (rs : List Restored) → (totals_of rs).files ≡ length (items_of rs)
 unfolding totals_of
 files_counted rs = counted rs
 
--- no more than the outcomes
-pub few_items : (os : List (FileKey × Outcome)) → length (items_in os) ≤ length os
-few_items os =
-    let c = counted (map restored os) in
-    let l = count_by-le-length (λ (r : Restored). is_ok r.outcome) (map restored os) in
-    let m = length-map os restored in
-    omega (arith, c, l, m)
-
 -- ---- outcomes that come next
-
-take_none : {X : Type 0} (n : ℕ) → ◌≡◌ {A = List X} (take n []) []
-take_none zero = refl
-take_none (suc n) = refl
-
-take_both : {X : Type 0} (a n : ℕ) (xs : List X) → take (a + n) xs ≡ take a xs ++ take n (drop a xs)
-take_both zero n xs = ap (λ (k : ℕ). take k xs) (omega arith)
-take_both (suc a) n [] =
-    let more : suc a + n ≡ suc (a + n) = omega arith in
-    ap (λ (k : ℕ). take k []) more ∙ sym (take_none n)
-take_both (suc a) n (x ∷ xs) =
-    let more : suc a + n ≡ suc (a + n) = omega arith in
-    ap (λ (k : ℕ). take k (x ∷ xs)) more ∙ ap (λ (ys : List _). x ∷ ys) (take_both a n xs)
-
-pub length_taken : {X : Type 0} (n : ℕ) (xs : List X) → n ≤ length xs → length (take n xs) ≡ n
-length_taken zero xs few = refl
-length_taken (suc n) [] few = absurd (omega (arith, few))
-length_taken (suc n) (x ∷ xs) few = ap suc (length_taken n xs (omega (arith, few)))
 
 pub taken_few : {X : Type 0} (n : ℕ) (xs : List X) → length (take n xs) ≤ length xs
 taken_few zero xs = omega arith
 taken_few (suc n) [] = omega arith
 taken_few (suc n) (x ∷ xs) = let few = taken_few n xs in omega (arith, few)
 
--- all that are left
-pub rest_is : {X : Type 0} (place : ℕ) (xs : List X) → take (length xs - place) (drop place xs) ≡ drop place xs
-rest_is zero xs =
-    let all : length xs - 0 ≡ length xs = omega arith in
-    ap (λ (k : ℕ). take k xs) all ∙ take_whole xs
-rest_is (suc place) [] = take_none _
-rest_is (suc place) (x ∷ xs) =
-    let less : length (x ∷ xs) - suc place ≡ length xs - place = omega arith in
-    ap (λ (k : ℕ). take k (drop place xs)) less ∙ rest_is place xs
-
 -- as many as there are in the next window
 pub window_len : {X : Type 0} (place n : ℕ) (xs window : List X) → window ≡ take n (drop place xs) → n ≤ length (drop place xs) → length window ≡ n
-window_len place n xs window is few = ap length is ∙ length_taken n (drop place xs) few
+window_len place n xs window is few = ap length is ∙ length-take-le n (drop place xs) few
 
 -- those up to it and those in it
 pub taken_window : {X : Type 0} (place n : ℕ) (xs window : List X) → window ≡ take n (drop place xs) → n ≤ length (drop place xs)
     → take (place + length window) xs ≡ take place xs ++ window
 taken_window place n xs window is few =
-    ap (λ (k : ℕ). take (place + k) xs) (window_len place n xs window is few) ∙ take_both place n xs ∙ ap (λ (ys : List _). take place xs ++ ys) (sym is)
+    ap (λ (k : ℕ). take (place + k) xs) (window_len place n xs window is few) ∙ take-add place n xs ∙ ap (λ (ys : List _). take place xs ++ ys) (sym is)
 
 -- their files
 pub items_window : (place n : ℕ) (os window : List (FileKey × Outcome)) → window ≡ take n (drop place os) → n ≤ length (drop place os)

@@ -31,11 +31,11 @@ use Rattle.br_engine.specs.Extracting.{OverVolumes}
 use Rattle.br_engine.specs.Fault.{cause}
 use Rattle.br_engine.specs.Outputs.{InSink}
 use Rattle.br_engine.specs.Restoring.{AllStand}
-use Rattle.br_engine.specs.declared.delivered_again.Source.{Source}
-use Rattle.br_engine.specs.declared.delivered_again.Window.{Window}
-use Rattle.br_engine.specs.declared.delivered_again.Window.TheVariants.{Alone, Two, Together}
+use Rattle.br_engine.specs.declared.delivered_again.RereadSource.{RereadSource}
+use Rattle.br_engine.specs.declared.delivered_again.PutStep.{PutStep}
+use Rattle.br_engine.specs.declared.delivered_again.PutStep.TheVariants.{Alone, Two, Together}
 use Rattle.br_engine.specs.declared.fault.ExtractFault.{ExtractFault}
-use Rattle.br_engine.specs.declared.made.Made.{Made}
+use Rattle.br_engine.specs.declared.made.MadeFiles.{MadeFiles}
 use Rattle.br_engine.specs.declared.restore_end.RestoreEnd.{RestoreEnd}
 
 -- ---- the source of files
@@ -90,7 +90,7 @@ abbrev pub keyed : KeyedItem → FileKey × join.Outcome
 keyed file = (file.key, File file.item.now)
 
 -- these outcomes are the files that are put part by part, if there are any
-abbrev pub IsWindowOf : List (FileKey × join.Outcome) → Window → Type 0
+abbrev pub IsWindowOf : List (FileKey × join.Outcome) → PutStep → Type 0
 IsWindowOf outcomes (Alone one) = outcomes ≡ keyed one ∷ []
 IsWindowOf outcomes (Two one other) = outcomes ≡ keyed one ∷ keyed other ∷ []
 IsWindowOf outcomes Together = ⊤
@@ -116,13 +116,13 @@ EndsAgain shows failures drives groups gathered outcomes had has end =
     EndsLike (CanGive shows failures drives groups gathered (map restored outcomes)) had has (map restored outcomes) end
 
 -- the same for files that are made from a source
-abbrev pub EndsBy : {D : Type 0} → (D → Option (List Volume)) → (D → ℕ) → List D → List Group → Source → List (FileKey × join.Outcome)
+abbrev pub EndsBy : {D : Type 0} → (D → Option (List Volume)) → (D → ℕ) → List D → List Group → RereadSource → List (FileKey × join.Outcome)
     → InSink → InSink → RestoreEnd → Type 0
 EndsBy shows failures drives groups source outcomes had has end =
     EndsAgain shows failures drives groups (Some source.gathered.now) outcomes had has end
 
 -- the same for the files of a restore
-abbrev pub EndsMade : {D : Type 0} → (D → Option (List Volume)) → (D → ℕ) → List D → List Group → Made → InSink → InSink → RestoreEnd → Type 0
+abbrev pub EndsMade : {D : Type 0} → (D → Option (List Volume)) → (D → ℕ) → List D → List Group → MadeFiles → InSink → InSink → RestoreEnd → Type 0
 EndsMade shows failures drives groups made had has end =
     EndsAgain shows failures drives groups made.gathered made.outcomes.items had has end
 
@@ -145,26 +145,26 @@ CanReread shows failures drives groups hits = (found : List Hit) → hits_of fou
     → GivesHits (record { drives = driven_by shows failures drives; groups = groups }) found
 
 -- if the hits are read again as they were found, the files are those of what a joiner took
-abbrev pub MadeOver : Type 0 → Joining → Made → Type 0
+abbrev pub MadeOver : Type 0 → Joining → MadeFiles → Type 0
 MadeOver given joining made = given → map restored made.outcomes.items ≡ files joining.hits (option_map planned_in joining.names)
 
 -- over all volumes that each of the drives may be taken to show, the files are those that the
 -- bootstrap gives, or the refusal is the first fault
-abbrev pub MakesOver : {D : Type 0} → (D → Option (List Volume)) → List D → List D → List Group → Option Names → Result Made ExtractFault → Type 0
+abbrev pub MakesOver : {D : Type 0} → (D → Option (List Volume)) → List D → List D → List Group → Option Names → Result MadeFiles ExtractFault → Type 0
 MakesOver shows before after groups names result =
-    OverVolumes (map shows before) (map shows after) groups (option_map planned_in names) (Answers (λ (m : Made). map restored m.outcomes.items) cause result)
+    OverVolumes (map shows before) (map shows after) groups (option_map planned_in names) (Answers (λ (m : MadeFiles). map restored m.outcomes.items) cause result)
 
 -- the files can be made once more from what the drives show
-abbrev pub CanGiveMade : {D : Type 0} → (D → Option (List Volume)) → (D → ℕ) → List D → List Group → Made → Type 0
+abbrev pub CanGiveMade : {D : Type 0} → (D → Option (List Volume)) → (D → ℕ) → List D → List Group → MadeFiles → Type 0
 CanGiveMade shows failures drives groups made = CanGive shows failures drives groups made.gathered (map restored made.outcomes.items)
 
 -- if the hits of a joiner are read again as they were found, the files can be made once more from
 -- what the drives show afterwards
-abbrev pub GivesIfReread : {D : Type 0} → (D → Option (List Volume)) → (D → ℕ) → List D → List D → List Group → Joining → Made → Type 0
+abbrev pub GivesIfReread : {D : Type 0} → (D → Option (List Volume)) → (D → ℕ) → List D → List D → List Group → Joining → MadeFiles → Type 0
 GivesIfReread shows failures before after groups joining made =
     CanReread shows failures before groups joining.hits → CanGiveMade shows failures after groups made
 
 -- over all such volumes, the files can be made once more from what the drives show afterwards
-abbrev pub GivesAgain : {D : Type 0} → (D → Option (List Volume)) → (D → ℕ) → List D → List D → List Group → Made → Type 0
+abbrev pub GivesAgain : {D : Type 0} → (D → Option (List Volume)) → (D → ℕ) → List D → List D → List Group → MadeFiles → Type 0
 GivesAgain shows failures before after groups made =
     (volumes : List Volume) → AllStand (map shows before) (map shows after) (pieces_of groups) volumes → CanGiveMade shows failures after groups made

@@ -1,4 +1,4 @@
-ghost use Rattle.std.specs.Prelude.{◌≡◌, ◌≤◌, ◌^◌, ◌-◌};
+ghost use Rattle.std.specs.Prelude.{◌≤◌};
 
 use std::alloc::Global;
 
@@ -16,16 +16,6 @@ pub struct Budget {
 }
 
 impl Budget {
-    /// Returns the budget that has room for all data.
-    pub fn unbounded(alloc: Global) -> Budget
-        ensures { result.room ≡ 2 ^ 64 - 1 }
-    {
-        Budget {
-            alloc,
-            room: u64::MAX,
-        }
-    }
-
     /// Returns the number of bytes of data that are held: seven eighths of the room.
     pub(crate) fn data_room(self) -> u64
         ensures { result ≤ self.room }

@@ -17,7 +17,7 @@ use std::alloc::{AllocError, Global};
 
 /// The choice among the outcomes before the manifest is written.
 #[derive(Drop)]
-pub(crate) struct Prepared {
+pub(crate) struct ChosenOutcomes {
     /// The lines of what is missing, if they are reported.
     pub(crate) missing: Vec<u8>,
     /// For each outcome, true if it is delivered. Without flags each is.
@@ -158,7 +158,7 @@ pub(crate) fn prepare(
     wanted: Wanted,
     asked: &CountedBootstrap<'_>,
     outcomes: &[(FileKey, Outcome)],
-) -> Result<Prepared, AllocError>
+) -> Result<ChosenOutcomes, AllocError>
     ensures missing { IfOk result (λ p. p.missing.items ≡ reported_for wanted.gaps asked.now (map restored outcomes.now)) }
     ensures flags { IfOk result (λ p. map restored (left_by p.flags outcomes.now) ≡ delivered wanted (map restored outcomes.now)) }
     ensures left { IfOk result (λ p. p.left.items ≡ left_out wanted (map restored outcomes.now)) }
@@ -166,7 +166,7 @@ pub(crate) fn prepare(
     let missing = reported_of(alloc, wanted.gaps, asked, outcomes)?;
     let flags = flags_of(alloc, wanted.copies, outcomes)?;
     let chosen = chosen_of(alloc, wanted.stops, flags, outcomes)?;
-    Ok(Prepared {
+    Ok(ChosenOutcomes {
         missing,
         flags: chosen.flags,
         left: chosen.left,

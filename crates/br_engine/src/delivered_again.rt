@@ -19,7 +19,7 @@ use std::thread::Threads;
 
 /// What files are made from once more.
 #[derive(Drop)]
-pub(crate) struct Source<'g> {
+pub(crate) struct RereadSource<'g> {
     pub(crate) alloc: Global,
     pub(crate) gathered: &'g Gathered,
     /// The number of bytes in the files that are made once more together, in memory. A longer file
@@ -72,7 +72,7 @@ fn window_len(window: u64, outcomes: &[(FileKey, Outcome)]) -> usize
 
 /// The outcomes whose files are put in one step.
 #[derive(Drop)]
-enum Window<'o> {
+enum PutStep<'o> {
     /// One file, which is put part by part.
     Alone(KeyedItem<'o>),
     /// Two files, which are put part by part.
@@ -86,16 +86,16 @@ enum Window<'o> {
 
 /// Returns the files to be put part by part, if these outcomes are one or two files with more than
 /// `window` bytes.
-fn window_of(window: u64, outcomes: &[(FileKey, Outcome)]) -> Window<'_>
+fn window_of(window: u64, outcomes: &[(FileKey, Outcome)]) -> PutStep<'_>
     ensures { IsWindowOf outcomes.now result }
 {
     match outcomes {
         [(key, Outcome::File(item))] if item.bytes.len() > window => {
-            Window::Alone(KeyedItem { key: *key, item })
+            PutStep::Alone(KeyedItem { key: *key, item })
         }
         [(key, Outcome::File(one)), (later, Outcome::File(other))]
             if one.bytes.len() > window && other.bytes.len() > window => {
-            Window::Two {
+            PutStep::Two {
                 one: KeyedItem {
                     key: *key,
                     item: one,
@@ -106,7 +106,7 @@ fn window_of(window: u64, outcomes: &[(FileKey, Outcome)]) -> Window<'_>
                 },
             }
         }
-        _ => Window::Together,
+        _ => PutStep::Together,
     }
 }
 
@@ -123,7 +123,7 @@ fn stop_of(fault: AgainFault) -> StopCause
 /// Makes the files among the outcomes once more in memory, and puts them into a sink.
 fn put_together<D: Drive, S: Sink>(
     rt: &(impl Threads + Sync),
-    source: &Source<'_>,
+    source: &RereadSource<'_>,
     many: &mut OverMany<'_, D>,
     window: &[(FileKey, Outcome)],
     sink: &mut S,
@@ -143,7 +143,7 @@ fn put_together<D: Drive, S: Sink>(
 /// Puts a file like this one into a sink. Its data are read again while the file is put.
 fn put_alone<D: Drive, S: Sink>(
     rt: &impl Threads,
-    source: &Source<'_>,
+    source: &RereadSource<'_>,
     many: &mut OverMany<'_, D>,
     alone: &KeyedItem<'_>,
     sink: &mut S,
@@ -167,7 +167,7 @@ fn put_alone<D: Drive, S: Sink>(
 /// after the other. Their data are read again while they are put.
 fn put_two_alone<D: Drive, S: Sink>(
     rt: &impl Threads,
-    source: &Source<'_>,
+    source: &RereadSource<'_>,
     many: &mut OverMany<'_, D>,
     one: &KeyedItem<'_>,
     other: &KeyedItem<'_>,
@@ -193,7 +193,7 @@ fn put_two_alone<D: Drive, S: Sink>(
 /// than the window are put part by part.
 fn put_window<D: Drive, S: Sink>(
     rt: &(impl Threads + Sync),
-    source: &Source<'_>,
+    source: &RereadSource<'_>,
     many: &mut OverMany<'_, D>,
     window: &[(FileKey, Outcome)],
     sink: &mut S,
@@ -205,9 +205,9 @@ fn put_window<D: Drive, S: Sink>(
     ensures failed { IfErr result (λ stop. stop.number ≡ 80 → S.failures sink.old < S.failures sink.new) }
 {
     match window_of(source.window, window) {
-        Window::Alone(alone) => put_alone(rt, source, many, &alone, sink),
-        Window::Two { one, other } => put_two_alone(rt, source, many, &one, &other, sink),
-        Window::Together => put_together(rt, source, many, window, sink),
+        PutStep::Alone(alone) => put_alone(rt, source, many, &alone, sink),
+        PutStep::Two { one, other } => put_two_alone(rt, source, many, &one, &other, sink),
+        PutStep::Together => put_together(rt, source, many, window, sink),
     }
 }
 
@@ -215,7 +215,7 @@ fn put_window<D: Drive, S: Sink>(
 /// order.
 fn put_windows<D: Drive, S: Sink>(
     rt: &(impl Threads + Sync),
-    source: &Source<'_>,
+    source: &RereadSource<'_>,
     many: &mut OverMany<'_, D>,
     outcomes: &[(FileKey, Outcome)],
     sink: &mut S,
@@ -249,7 +249,7 @@ fn put_windows<D: Drive, S: Sink>(
 /// were found.
 pub(crate) fn deliver_again<D: Drive, S: Sink>(
     rt: &(impl Threads + Sync),
-    source: &Source<'_>,
+    source: &RereadSource<'_>,
     many: &mut OverMany<'_, D>,
     outcomes: &[(FileKey, Outcome)],
     sink: &mut S,

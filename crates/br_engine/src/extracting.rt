@@ -30,6 +30,7 @@ fn all_outcomes(outcomes: &[(FileKey, Outcome)]) -> bool
 pub(crate) fn all_files(outcomes: &[(FileKey, Outcome)]) -> bool
     ensures { result ≡ are_files (map restored outcomes.now) }
 {
+    // The loop has a clause of its own, from which this one is proved.
     all_outcomes(outcomes)
 }
 

@@ -6,7 +6,7 @@ ghost use Rattle.br_engine.specs.Fault.{IsNoDriveLeft, IsNoLine, IsUnmade};
 ghost use Rattle.br_engine.specs.Outputs.{SinkCounts, StopsByFailure};
 
 use crate::budget::Budget;
-use crate::delivered_again::{Source, deliver_again, len_of};
+use crate::delivered_again::{RereadSource, deliver_again, len_of};
 use crate::delivering::{deliver_files, end_of};
 use crate::fault::ExtractFault;
 use crate::restore_end::RestoreEnd;
@@ -29,7 +29,7 @@ const LONG_LEN: u64 = 64 * 1024 * 1024;
 
 /// The files of a restore, each with its outcome, in order of their keys.
 #[derive(Drop)]
-pub(crate) struct Made {
+pub(crate) struct MadeFiles {
     pub(crate) outcomes: Vec<(FileKey, Outcome)>,
     /// What the files are made from once more, if their bytes are not in memory.
     gathered: Option<Gathered>,
@@ -61,7 +61,7 @@ fn made_of<D: Drive + Send>(
     joiner: Joiner,
     groups: &[Group],
     drives: &mut Vec<D>,
-) -> Result<Made, ExtractFault>
+) -> Result<MadeFiles, ExtractFault>
     ensures made { IfOk result (λ made. MadeOver (CanReread D.shows D.failures drives.old.items groups.now joiner.hits) joiner made) }
     ensures again { IfOk result (λ made. GivesIfReread D.shows D.failures drives.old.items drives.new.items groups.now joiner made) }
     ensures places { StayInPlace D.shows D.failures drives.old.items drives.new.items }
@@ -77,7 +77,7 @@ fn made_of<D: Drive + Send>(
     let none = mem::replace(drives, many.into_drives());
     none.destroy_empty();
     let outcomes = files?;
-    Ok(Made {
+    Ok(MadeFiles {
         gathered: Some(lighter(gathered, &outcomes)),
         outcomes,
         window: budget.window(),
@@ -99,7 +99,7 @@ pub(crate) fn restore_within<D: Drive + Send>(
     bootstrap: &Bootstrap,
     names: Option<Names>,
     drives: &mut Vec<D>,
-) -> Result<Made, ExtractFault>
+) -> Result<MadeFiles, ExtractFault>
     requires drives { AreDrives drives.old.items }
     ensures files { MakesOver D.shows drives.old.items drives.new.items bootstrap.now names result }
     ensures again { IfOk result (λ made. GivesAgain D.shows D.failures drives.old.items drives.new.items bootstrap.now made) }
@@ -110,7 +110,7 @@ pub(crate) fn restore_within<D: Drive + Send>(
     let mut joiner = join_all(rt, budget, bootstrap, names, drives)?;
     if joiner.holds_all() {
         let outcomes = files_of(rt, &mut joiner)?;
-        return Ok(Made {
+        return Ok(MadeFiles {
             outcomes,
             gathered: None,
             window: budget.window(),
@@ -124,7 +124,7 @@ pub(crate) fn restore_within<D: Drive + Send>(
 /// Delivers the files among the outcomes into a sink. They are made once more from their source.
 fn deliver_by<D: Drive, S: Sink>(
     rt: &(impl Threads + Sync),
-    source: &Source<'_>,
+    source: &RereadSource<'_>,
     groups: &[Group],
     drives: &mut Vec<D>,
     outcomes: &[(FileKey, Outcome)],
@@ -150,7 +150,7 @@ fn deliver_by<D: Drive, S: Sink>(
 /// Delivers the files among the outcomes as `deliver_by` does, if there is a sink.
 fn deliver_from<D: Drive, S: Sink>(
     rt: &(impl Threads + Sync),
-    source: &Source<'_>,
+    source: &RereadSource<'_>,
     groups: &[Group],
     drives: &mut Vec<D>,
     outcomes: &[(FileKey, Outcome)],
@@ -173,7 +173,7 @@ fn deliver_from<D: Drive, S: Sink>(
 pub(crate) fn deliver_made<D: Drive, S: Sink>(
     rt: &(impl Threads + Sync),
     alloc: Global,
-    made: &Made,
+    made: &MadeFiles,
     groups: &[Group],
     drives: &mut Vec<D>,
     sink: &mut Option<S>,
@@ -187,7 +187,7 @@ pub(crate) fn deliver_made<D: Drive, S: Sink>(
     match &made.gathered {
         None => deliver_files(rt, alloc, &made.outcomes, sink),
         Some(gathered) => {
-            let source = Source {
+            let source = RereadSource {
                 alloc,
                 gathered,
                 window: made.window,

@@ -11,8 +11,8 @@ use br_join::Outcome;
 use br_types::{FileKey, NewestCopies};
 use std::alloc::{AllocError, Global};
 
-/// The numbers of outcomes that are older copies of paths.
-#[derive(Clone, Copy, PartialEq, Eq)]
+/// How many outcomes are older copies of paths.
+#[derive(Clone, Copy)]
 pub struct OlderCopies {
     /// The number of files for whose path a newer file is among the outcomes.
     pub files: u64,

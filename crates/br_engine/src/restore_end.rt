@@ -5,8 +5,8 @@ use crate::fault::push_refused_line;
 use br_sink::SinkStop;
 use std::alloc::AllocError;
 
-/// The end of a restore that wrote its manifest.
-#[derive(Debug, Drop)]
+/// How a restore ended that wrote its manifest.
+#[derive(Drop)]
 pub enum RestoreEnd {
     /// Each outcome is a file, and all of them were delivered if there is a sink.
     AllFiles,

@@ -7,7 +7,7 @@ use thiserror::Error;
 const MAX_TURNS: u64 = 1 << 40;
 
 /// The fault of an input that has not ended after 2^40 turns of reading. Its value is the number of turns.
-#[derive(Clone, Copy, Debug, Drop, PartialEq, Eq, Error)]
+#[derive(Clone, Copy, Debug, Drop, Error)]
 #[error("the input has no end")]
 pub struct NoEnd {
     turns: u64,
@@ -25,8 +25,8 @@ impl Model for NoEnd {
     ghost inverse = { λ n. record { turns = n } };
 }
 
-/// The number of turns of reading that were made.
-#[derive(Clone, Copy, Drop, PartialEq, Eq)]
+/// The number of turns of reading that were made of an input.
+#[derive(Clone, Copy, Drop)]
 pub struct Turns {
     made: u64,
 }

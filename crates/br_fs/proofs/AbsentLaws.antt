@@ -5,7 +5,7 @@ use Rattle.std.specs.List.{find}
 use Rattle.br_fs.specs.Tree.{Tree, file_bytes, other_at}
 use Rattle.br_fs.specs.Calls.{IsAbsent, IsAt}
 use Rattle.br_fs.specs.Memory.{IsIn, IsNotFile, IsOtherIn, IsSeen, IsUnseenAt}
-use Rattle.br_fs.specs.declared.kind.Found.{Found}
+use Rattle.br_fs.specs.declared.kind.Metadata.{Metadata}
 use Rattle.br_fs.specs.declared.kind.Kind.{Kind}
 use Rattle.br_fs.specs.declared.kind.Kind.TheVariants.{File, Folder, Link, Other}
 
@@ -23,7 +23,7 @@ pub none_seen : (others : List (List ℕ × Kind)) (path : List ℕ) → find (�
     → IsOtherIn others path None
 none_seen others path none = rw none tt
 
-pub other_seen : (others : List (List ℕ × Kind)) (path : List ℕ) (other : List ℕ × Kind) (result : Option Found)
+pub other_seen : (others : List (List ℕ × Kind)) (path : List ℕ) (other : List ℕ × Kind) (result : Option Metadata)
     → find (λ (e : List ℕ × Kind). bytes_eq e.0 path) others ≡ Some other → IsSeen other.1 result → IsOtherIn others path result
 other_seen others path other None found seen = rw found seen
 other_seen others path other (Some f) found seen =
@@ -36,7 +36,7 @@ other_at_kind tree path Folder n none is other = (none, is)
 other_at_kind tree path Link n none is other = (none, is)
 other_at_kind tree path Other n none is other = (none, is)
 
-pub other_is_in : (tree : Tree) (path : List ℕ) (result : Option Found) → file_bytes tree path ≡ None → IsOtherIn tree.others path result
+pub other_is_in : (tree : Tree) (path : List ℕ) (result : Option Metadata) → file_bytes tree path ≡ None → IsOtherIn tree.others path result
     → IsIn tree path result
 other_is_in tree path None none other = (none, other)
 other_is_in tree path (Some f) none other = other_at_kind tree path f.kind f.len none other.0 other.1

@@ -12,7 +12,7 @@ use Rattle.br_fs.specs.Calls.{Appends}
 use Rattle.br_fs.specs.Append.{AppendsInPart}
 use Rattle.br_fs.specs.Memory.{longer, with_appended}
 
-turned : (xs ys : List ℕ) → bytes_eq xs ys ≡ bytes_eq ys xs
+pub turned : (xs ys : List ℕ) → bytes_eq xs ys ≡ bytes_eq ys xs
 turned xs ys =
     let e = bytes_eq-Decides ys xs in
     same_from_decides (bytes_eq xs ys) (bytes_eq ys xs) (bytes_eq-Decides xs ys) ((λ h. sym (e.0 h)), (λ h. e.1 (sym h)))

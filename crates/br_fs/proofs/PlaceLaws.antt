@@ -1,37 +1,10 @@
 -- Bytes appended to files that are kept as pairs.
-use Rattle.std.proofs.Common.{◌≡◌, ℕ, zero, suc, ◌+◌, ◌<◌, ◌≤◌, Bool, true, false, not, cond, Some, None, List, [], ◌∷◌, ◌++◌, length, refl, ap, arith}
-use Rattle.std.specs.Prelude.{Vec, bytes_eq, slice_set, slice_index_or, nat_lt, position}
+use Rattle.std.proofs.Common.{◌≡◌, ℕ, zero, suc, ◌+◌, ◌<◌, ◌≤◌, Bool, Some, None, List, [], ◌∷◌, ◌++◌, length, refl, ap, arith}
+use Rattle.std.specs.Prelude.{Vec, bytes_eq, slice_set, slice_index_or, position}
 use Rattle.std.specs.List.{position_or_len}
-use Rattle.std.proofs.lemmas.Bool.{ltb-true, ltb-false}
 use Rattle.br_model.specs.Volume.{Volume}
 use Rattle.br_fs.specs.Memory.{files_of, with_appended}
-
-module _ {X : Type 0} (p : X → Bool) where
-  found_at : (xs : List X) (i : ℕ) → position p xs ≡ Some i → (position_or_len p xs ≡ i) × (i < length xs)
-  found_at xs i h =
-      elim (nat_lt (position_or_len p xs) (length xs)) as (λ b. nat_lt (position_or_len p xs) (length xs) ≡ b → cond b (Some (position_or_len p xs)) None ≡ Some i
-      → (position_or_len p xs ≡ i) × (i < length xs)) [
-        | true ↦ λ is some. let e : position_or_len p xs ≡ i = cc in (e, rw e at (ltb-true (position_or_len p xs) (length xs) is))
-        | false ↦ λ is some. absurd cc
-      ] refl h
-
-  not_found : (xs : List X) → position p xs ≡ None → length xs ≤ position_or_len p xs
-  not_found xs h =
-      elim (nat_lt (position_or_len p xs) (length xs)) as (λ b. nat_lt (position_or_len p xs) (length xs) ≡ b → cond b (Some (position_or_len p xs)) None ≡ None
-      → length xs ≤ position_or_len p xs)
-      [ true ↦ λ is some. absurd cc | false ↦ λ is none. ltb-false (position_or_len p xs) (length xs) is ] refl h
-
-at_front : (b : Bool) (rest : ℕ) → cond (not b) (1 + rest) 0 ≡ 0 → b ≡ true
-at_front true rest h = refl
-at_front false rest h = absurd (omega arith)
-
-behind : (b : Bool) (rest i : ℕ) → cond (not b) (1 + rest) 0 ≡ suc i → (b ≡ false) × (rest ≡ i)
-behind true rest i h = absurd (omega arith)
-behind false rest i h = (refl, omega arith)
-
-behind_all : (b : Bool) (rest n : ℕ) → suc n ≤ cond (not b) (1 + rest) 0 → (b ≡ false) × (n ≤ rest)
-behind_all true rest n h = absurd (omega arith)
-behind_all false rest n h = (refl, omega arith)
+use Rattle.br_model.proofs.ListLaws.{at_front, behind, behind_all, found_at, not_found}
 
 module _ {A : Type 0} (path bytes : List ℕ) where
   abbrev is_of : List ℕ × Vec ℕ A → Bool

@@ -5,7 +5,7 @@ use Rattle.br_fs.specs.Tree.{Tree, file_bytes, other_at}
 use Rattle.br_fs.specs.Calls.{IsAt}
 use Rattle.br_fs.specs.declared.kind.Kind.{Kind}
 use Rattle.br_fs.specs.declared.kind.Kind.TheVariants.{File, Folder, Link, Other}
-use Rattle.br_fs.specs.declared.kind.Found.{Found}
+use Rattle.br_fs.specs.declared.kind.Metadata.{Metadata}
 
 -- files that are kept as pairs of a path and bytes, in their order
 abbrev pub files_of : {A : Type 0} → List (List ℕ × Vec ℕ A) → List Volume
@@ -64,7 +64,7 @@ IsUnseen Link = ⊤
 IsUnseen Other = ⊥
 
 -- what is found at a path where something of this kind is
-abbrev pub IsSeen : Kind → Option Found → Type 0
+abbrev pub IsSeen : Kind → Option Metadata → Type 0
 IsSeen kind None = IsUnseen kind
 IsSeen kind (Some found) = (found.kind ≡ kind) × IsNotFile found.kind
 
@@ -74,7 +74,7 @@ IsUnseenAt None = ⊤
 IsUnseenAt (Some kind) = IsUnseen kind
 
 -- what is found at the path other than a file
-abbrev pub IsOtherIn : List (List ℕ × Kind) → List ℕ → Option Found → Type 0
+abbrev pub IsOtherIn : List (List ℕ × Kind) → List ℕ → Option Metadata → Type 0
 IsOtherIn others path None =
     IsUnseenAt (option_map (λ (e : List ℕ × Kind). e.1) (find (λ (e : List ℕ × Kind). bytes_eq e.0 path) others))
 IsOtherIn others path (Some found) =
@@ -82,6 +82,6 @@ IsOtherIn others path (Some found) =
     × IsNotFile found.kind
 
 -- what is found at the path
-abbrev pub IsIn : Tree → List ℕ → Option Found → Type 0
+abbrev pub IsIn : Tree → List ℕ → Option Metadata → Type 0
 IsIn tree path None = (file_bytes tree path ≡ None) × IsUnseenAt (other_at tree path)
 IsIn tree path (Some found) = IsAt tree path found.kind found.len

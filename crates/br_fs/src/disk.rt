@@ -5,7 +5,7 @@ ghost use Rattle.br_fs.specs.Calls.{Appends, KeepsFolders};
 ghost use Rattle.br_fs.specs.declared.fault.DiskFault.TheVariants.{Exists, NotFound};
 
 use crate::fault::DiskFault;
-use crate::kind::Found;
+use crate::kind::Metadata;
 
 /// Files and folders by path. The calls are few and small: each is one call of the system. Reads
 /// and writes may be short. A disk that tells its tree is changed by nobody else, and no two paths
@@ -28,7 +28,7 @@ pub trait Disk {
     /// # Errors
     ///
     /// `NotFound` only if nothing is there, or a link whose target does not exist.
-    fn find(&mut self, path: &str) -> Result<Found, DiskFault>
+    fn find(&mut self, path: &str) -> Result<Metadata, DiskFault>
         ensures found { IfOk result (λ found. IsFound (told self.new) path.now found.kind found.len) }
         ensures missing { result ≡ Err NotFound → IsNoFile (told self.new) path.now }
         ensures never { result ≡ Err NotFound → IsAbsent (told self.new) path.now }

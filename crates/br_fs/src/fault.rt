@@ -4,8 +4,8 @@ ghost use Rattle.br_fs.specs.declared.fault.DiskFault.TheVariants.{Memory};
 use std::alloc::AllocError;
 use thiserror::Error;
 
-/// The reason why a call on a disk had no effect.
-#[derive(Clone, Copy, Debug, PartialEq, Eq, Error)]
+/// The reason why a call on a disk did nothing.
+#[derive(Clone, Copy, Debug, Error)]
 pub enum DiskFault {
     #[error("there is nothing at this path")]
     NotFound,

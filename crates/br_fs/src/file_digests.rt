@@ -6,8 +6,8 @@ ghost use Rattle.br_fs.specs.Alike.{HasAlike, HasFront, LacksAlike, ReadsOn};
 
 use crate::disk::Disk;
 use crate::fault::DiskFault;
+use crate::file_reading::read_from;
 use crate::kind::Kind;
-use crate::read::read_from;
 use md5::{Digest, Md5};
 use std::alloc::Global;
 

@@ -6,9 +6,9 @@ ghost use Rattle.br_fs.specs.Fault.{IsFaultOf};
 
 use crate::disk::Disk;
 use crate::fault::DiskFault;
-use crate::kind::{Found, Kind};
+use crate::file_path::FilePath;
+use crate::kind::{Kind, Metadata};
 use crate::maker::FileMaker;
-use crate::path::FilePath;
 use std::alloc::Global;
 use std::fs::{DirBuilder, FileType, OpenOptions};
 use std::io::{ErrorKind, Write};
@@ -135,9 +135,9 @@ where
 
     ghost steady = { λ _. None };
 
-    fn find(&mut self, path: &str) -> Result<Found, DiskFault> {
+    fn find(&mut self, path: &str) -> Result<Metadata, DiskFault> {
         let metadata = fs::metadata(&self.files, path).map_err(fault_of)?;
-        Ok(Found {
+        Ok(Metadata {
             kind: kind_of(metadata.file_type()),
             len: metadata.len(),
         })

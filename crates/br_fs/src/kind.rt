@@ -1,5 +1,5 @@
 /// What is at a path.
-#[derive(Clone, Copy, Debug, PartialEq, Eq)]
+#[derive(Clone, Copy, Debug)]
 pub enum Kind {
     File,
     Folder,
@@ -9,8 +9,8 @@ pub enum Kind {
 }
 
 /// What a disk finds at a path.
-#[derive(Clone, Copy, PartialEq, Eq)]
-pub struct Found {
+#[derive(Clone, Copy)]
+pub struct Metadata {
     pub kind: Kind,
     /// The number of bytes of a file.
     pub len: u64,

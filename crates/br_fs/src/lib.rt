@@ -13,30 +13,30 @@
 //! MD5 digest. It reads the file in parts. `Comparer` is a maker of files that compares.
 #![tactic(auto)]
 
-mod appending;
 mod comparer;
 mod disk;
 mod fault;
+mod file_appending;
 mod file_digests;
+mod file_path;
+mod file_reading;
 mod host;
 mod kind;
 mod maker;
-mod making;
+mod maker_steps;
 mod mem;
 mod mem_maker;
-mod path;
-mod read;
 
-pub use appending::append;
 pub use comparer::Comparer;
 pub use disk::Disk;
 pub use fault::DiskFault;
+pub use file_appending::append;
 pub use file_digests::has_alike;
+pub use file_path::FilePath;
+pub use file_reading::read_from;
 pub use host::{HostDisk, HostFile};
-pub use kind::{Found, Kind};
+pub use kind::{Kind, Metadata};
 pub use maker::FileMaker;
-pub use making::{clear_path, enter_folder, put_file};
+pub use maker_steps::{clear_path, enter_folder, put_file};
 pub use mem::MemDisk;
 pub use mem_maker::{MemMaker, MemNew};
-pub use path::FilePath;
-pub use read::read_from;

@@ -8,8 +8,8 @@ ghost use Rattle.br_fs.specs.Memory.{with_interrupts, with_calls, with_room};
 
 use crate::disk::Disk;
 use crate::fault::DiskFault;
-use crate::kind::{Found, Kind};
-use crate::path::FilePath;
+use crate::file_path::FilePath;
+use crate::kind::{Kind, Metadata};
 use std::alloc::{AllocError, Global};
 use std::marker::Model;
 
@@ -138,19 +138,19 @@ fn other_of<'a>(others: &'a [(FilePath, Kind)], path: &[u8]) -> Option<&'a (File
 }
 
 /// Returns what a call finds at a path of this kind. It follows links, whose targets never exist.
-fn found_of(kind: Kind) -> Option<Found>
+fn found_of(kind: Kind) -> Option<Metadata>
     ensures { IsSeen kind result }
 {
     match kind {
-        Kind::Folder => Some(Found { kind, len: 0 }),
-        Kind::Other => Some(Found { kind, len: 0 }),
+        Kind::Folder => Some(Metadata { kind, len: 0 }),
+        Kind::Other => Some(Metadata { kind, len: 0 }),
         Kind::File | Kind::Link => None,
     }
 }
 
 /// Returns what is found at the path other than a file.
 #[tactic(auto, using(crate::proofs::AbsentLaws::other_seen, crate::proofs::AbsentLaws::none_seen))]
-fn other_in(others: &[(FilePath, Kind)], path: &[u8]) -> Option<Found>
+fn other_in(others: &[(FilePath, Kind)], path: &[u8]) -> Option<Metadata>
     ensures { IsOtherIn others.now path.now result }
 {
     match other_of(others, path) {
@@ -165,11 +165,11 @@ fn found_in(
     files: &[(FilePath, Vec<u8>)],
     others: &[(FilePath, Kind)],
     path: &[u8],
-) -> Option<Found>
+) -> Option<Metadata>
     ensures { IsIn (record { files = files_of files.now; others = others.now }) path.now result }
 {
     if let Some(bytes) = bytes_of(files, path) {
-        return Some(Found {
+        return Some(Metadata {
             kind: Kind::File,
             len: bytes.len() as u64,
         });
@@ -242,7 +242,7 @@ impl Disk for MemDisk {
     ghost steady = { steady_of };
 
     #[tactic(auto, using(crate::proofs::AbsentLaws::unseen_is_absent))]
-    fn find(&mut self, path: &str) -> Result<Found, DiskFault> {
+    fn find(&mut self, path: &str) -> Result<Metadata, DiskFault> {
         if !self.answers() {
             return Err(DiskFault::Failed);
         }

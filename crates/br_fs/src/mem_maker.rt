@@ -7,9 +7,9 @@ ghost use Rattle.br_fs.specs.MemMaker.{begins_with_slash, bytes_in, is_below, is
 ghost use Rattle.br_fs.specs.MemMaker.{node_of, nodes_of, with_calls};
 
 use crate::fault::DiskFault;
+use crate::file_path::FilePath;
 use crate::kind::Kind;
 use crate::maker::FileMaker;
-use crate::path::FilePath;
 use std::alloc::{AllocError, Global};
 use std::io;
 use std::io::{ErrorKind, Write};

@@ -23,7 +23,7 @@ use Rattle.br_history.specs.declared.fault.HistoryFault.{HistoryFault}
 use Rattle.br_history.specs.declared.fault.HistoryFault.TheVariants.{Memory}
 use Rattle.br_history.specs.Fault.{cause}
 use Rattle.br_history.specs.Saving.{ToCommit, IsJobWith}
-use Rattle.br_history.proofs.StatLaws.{stat_reads}
+use Rattle.br_model.proofs.AttributeLaws.{stat_reads}
 
 -- the index of a saved file is above 0
 saved_above_0 : (n : ℕ) (files : List ToSave) → 0 < n → AllByRecursion (λ (f : FileRow). ltb 0 f.index ≡ true) (map file_row (enumerate_from n files))

@@ -3,7 +3,6 @@ pub mod ClashLaws
 pub mod RowLaws
 pub mod HistoryLaws
 pub mod SavingLaws
-pub mod StatLaws
 pub mod JobOfRowsLaws
 pub mod AdmittedLaws
 pub mod WholeVisitLaws
@@ -11,3 +10,4 @@ pub mod StayWholeLaws
 pub mod SpanFitLaws
 pub mod RowFitLaws
 pub mod PlaceLaws
+pub mod PreparingLaws

@@ -10,9 +10,9 @@ use Rattle.br_model.specs.Session.{ToSave, visits, file_row, deletion_row, rows_
 use Rattle.br_model.specs.SessionHolds.{IsToSave}
 use Rattle.br_history.specs.Committing.{WrittenRowsFit}
 use Rattle.br_history.proofs.SavingLaws.{few_in_order}
-use Rattle.br_history.proofs.StatLaws.{stat_reads}
 use Rattle.br_history.proofs.WholeVisitLaws.{written_visits}
 use Rattle.br_history.proofs.SpanFitLaws.{each_is_span, each_is_numbered, none_overlap, spans_checked}
+use Rattle.br_model.proofs.AttributeLaws.{stat_reads}
 
 -- ---- each row
 

@@ -3,6 +3,7 @@ pub mod Seen
 pub mod Taken
 pub mod Saving
 pub mod Committing
+pub mod Preparing
 pub mod JobLineFault
 pub mod JobFields
 pub mod FileLine

@@ -23,7 +23,7 @@ use std::marker::Model;
 use thiserror::Error;
 
 /// Why a job can't be committed when it ends.
-#[derive(Clone, Copy, Debug, PartialEq, Eq, Error)]
+#[derive(Clone, Copy, Debug, Error)]
 pub enum EndFault {
     #[error("the job saves files, and its last place does not take all blocks that are left")]
     NoLastPlace,
@@ -44,8 +44,8 @@ impl EndFault {
     }
 }
 
-/// The effect of a line on its job.
-#[derive(Clone, Copy, PartialEq, Eq)]
+/// What a job took.
+#[derive(Clone, Copy)]
 pub enum Taken {
     /// A line after which the job goes on.
     Line,

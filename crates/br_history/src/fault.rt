@@ -7,7 +7,7 @@ use std::alloc::AllocError;
 use thiserror::Error;
 
 /// Why the rows of a job, or a job of a history, were refused.
-#[derive(Clone, Copy, Debug, PartialEq, Eq, Error)]
+#[derive(Clone, Copy, Debug, Error)]
 pub enum HistoryFault {
     #[error("out of memory")]
     Memory,
@@ -42,8 +42,8 @@ impl From<AllocError> for HistoryFault {
     }
 }
 
-/// Why a job can't be committed, for any history and any volumes.
-#[derive(Clone, Copy, Debug, PartialEq, Eq, Error)]
+/// Why a job can't be committed, whatever the history and the volumes are.
+#[derive(Clone, Copy, Debug, Error)]
 pub enum SavedJobFault {
     #[error("the files are out of order: a hard link must name an earlier file of type 2 or 3, and there must be fewer than 2^31 files")]
     BadFileOrder,

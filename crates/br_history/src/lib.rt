@@ -22,6 +22,7 @@ mod laws;
 mod row;
 mod rows;
 mod saved_job;
+mod session;
 
 pub use draft::{Draft, EndFault, Taken};
 pub use fault::{HistoryFault, SavedJobFault};
@@ -34,3 +35,4 @@ pub use laws::{pushed_is_admitted, volumes_stay_whole, whole_volumes_are_ready, 
 pub use row::{FileRow, JobRow};
 pub use rows::JobRows;
 pub use saved_job::SavedJob;
+pub use session::session_of;

@@ -8,7 +8,6 @@ use Rattle.br_model.specs.Job.{JobRows}
 use Rattle.br_model.specs.Name.{checked_name}
 use Rattle.br_choose.specs.Wanted.{request_for}
 use Rattle.br_jobs.specs.JobFilter.{listed}
-use Rattle.br_jobs.specs.ListingLine.{AreLines}
 use Rattle.br_jobs.specs.LocalTime.{AreLinesIn}
 use Rattle.br_jobs.specs.declared.job_filter.Filter.{Filter}
 use Rattle.br_jobs.specs.ListingFault.{cause}
@@ -29,15 +28,9 @@ marked history None fileset moment = Ok []
 marked history (Some client) None moment = Ok []
 marked history (Some client) (Some fileset) None = Ok []
 
--- the lines of the jobs that a filter lists, with the chosen ones marked, or why none is chosen
-abbrev pub MarksLines : List JobRows → Filter → Result (Vec ℕ) ListingFault → Type 0
-MarksLines history f (Ok text) =
-    (chosen : List (Bor JobRows)) × (marked history f.client f.fileset f.before ≡ Ok (map (λ (j : Bor JobRows). j.now) chosen)) × AreLines chosen (listed f history) text.items
-MarksLines history f (Err fault) = IsRefusal (cause fault) (marked history f.client f.fileset f.before)
-
--- the same lines with their moments in these zones, or why none is chosen
-abbrev pub MarksLinesIn : Zones → List JobRows → Filter → Result (Vec ℕ) ListingFault → Type 0
-MarksLinesIn zones history f (Ok text) =
+-- the lines of the jobs that a filter lists with their moments in these zones, with those marked that are chosen; or why none is chosen
+abbrev pub MarksLines : Zones → List JobRows → Filter → Result (Vec ℕ) ListingFault → Type 0
+MarksLines zones history f (Ok text) =
     (chosen : List (Bor JobRows)) × (marked history f.client f.fileset f.before ≡ Ok (map (λ (j : Bor JobRows). j.now) chosen))
     × AreLinesIn zones chosen (listed f history) text.items
-MarksLinesIn zones history f (Err fault) = IsRefusal (cause fault) (marked history f.client f.fileset f.before)
+MarksLines zones history f (Err fault) = IsRefusal (cause fault) (marked history f.client f.fileset f.before)

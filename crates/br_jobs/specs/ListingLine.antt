@@ -78,7 +78,3 @@ rest_text j = names_text j.row ++ sums_text j.files ++ end_text j.spans
 -- the line of a job
 abbrev pub IsLine : Bool → JobRows → List ℕ → Type 0
 IsLine chosen j line = (moment : List ℕ) × IsMoment j.row.start moment × (line ≡ start_text chosen j ++ moment ++ rest_text j)
-
--- a line for each job; these jobs are chosen
-abbrev pub AreLines : List (Bor JobRows) → List JobRows → List ℕ → Type 0
-AreLines chosen jobs text = (lines : List (List ℕ)) × AllZip (λ j line. IsLine (is_chosen chosen j) j line) jobs lines × (text ≡ flat_map (λ line. line) lines)

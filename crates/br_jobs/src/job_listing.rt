@@ -35,9 +35,9 @@ fn push_job(
     Ok(())
 }
 
-/// Returns a line for each of the jobs that the filter admits, in their order, with its moment in
-/// the given zones. The line of a chosen job is marked.
-pub(crate) fn list_jobs(
+/// Returns a line for each of the jobs that the filter admits, in their order, with its moment in the given
+/// zones. It says of each if it is one of the chosen.
+pub fn list_jobs(
     alloc: Global,
     jobs: &[JobRows],
     filter: &Filter<'_>,

@@ -1,14 +1,10 @@
-//! The lines of jobs, with the chosen ones marked.
-ghost use Rattle.std.specs.Prelude.{IfOk, []};
+//! The lines of jobs with those marked that are chosen.
 ghost use Rattle.br_model.specs.Answer.{Answers};
 ghost use Rattle.br_model.specs.Name.{checked_name};
 ghost use Rattle.br_choose.specs.Wanted.{jobs_of};
 ghost use Rattle.br_jobs.specs.ListingFault.{cause};
 ghost use Rattle.br_jobs.specs.JobMarks as model;
-ghost use Rattle.br_jobs.specs.JobFilter.{listed};
-ghost use Rattle.br_jobs.specs.ListingLine.{AreLines};
-ghost use Rattle.br_jobs.specs.LocalTime.{AreLinesIn};
-ghost use Rattle.br_jobs.specs.JobMarks.{MarksLines, MarksLinesIn};
+ghost use Rattle.br_jobs.specs.JobMarks.{MarksLines};
 
 use crate::job_filter::Filter;
 use crate::job_listing::list_jobs;
@@ -17,7 +13,7 @@ use crate::time_zones::Zones;
 use br_choose::choose;
 use br_history::{History, JobRows};
 use br_types::{Name, NameFault};
-use std::alloc::{AllocError, Global};
+use std::alloc::Global;
 
 /// Reads the name of a client or of a file set.
 #[tactic(auto, unfolding(br_model::specs::Name::checked_name))]
@@ -71,54 +67,15 @@ fn marked<'h>(
 /// # Errors
 ///
 /// `BadName` for the client, then for the file set; then those of the choice.
-pub fn marked_lines_in(
-    alloc: Global,
-    history: &History,
-    filter: &Filter<'_>,
-    zones: &Zones<'_>,
-) -> Result<Vec<u8>, ListingFault>
-    ensures { MarksLinesIn zones.now history.now filter.now result }
-{
-    let chosen = marked(alloc, history, filter)?;
-    let text = list_jobs(alloc, history.jobs(), filter, zones, &chosen)?;
-    Ok(text)
-}
-
-/// Returns the lines of the jobs that the filter lists, with their moments in the given zones; none is marked.
-pub fn unmarked_lines_in(
-    alloc: Global,
-    history: &History,
-    filter: &Filter<'_>,
-    zones: &Zones<'_>,
-) -> Result<Vec<u8>, AllocError>
-    ensures { IfOk result (λ text. AreLinesIn zones.now [] (listed filter.now history.now) text.items) }
-{
-    list_jobs(alloc, history.jobs(), filter, zones, &[])
-}
-
-/// Returns the lines of the jobs that the filter lists, with their moments in UTC. Marks those that
-/// `console` would choose, if client, file set and moment are given.
-///
-/// # Errors
-///
-/// Those of `marked_lines_in`.
 pub fn marked_lines(
     alloc: Global,
     history: &History,
     filter: &Filter<'_>,
+    zones: &Zones<'_>,
 ) -> Result<Vec<u8>, ListingFault>
-    ensures { MarksLines history.now filter.now result }
+    ensures { MarksLines zones.now history.now filter.now result }
 {
-    marked_lines_in(alloc, history, filter, &Zones::Utc)
-}
-
-/// Returns the lines of the jobs that the filter lists, with their moments in UTC; none is marked.
-pub fn unmarked_lines(
-    alloc: Global,
-    history: &History,
-    filter: &Filter<'_>,
-) -> Result<Vec<u8>, AllocError>
-    ensures { IfOk result (λ text. AreLines [] (listed filter.now history.now) text.items) }
-{
-    unmarked_lines_in(alloc, history, filter, &Zones::Utc)
+    let chosen = marked(alloc, history, filter)?;
+    let text = list_jobs(alloc, history.jobs(), filter, zones, &chosen)?;
+    Ok(text)
 }

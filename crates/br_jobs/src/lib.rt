@@ -16,7 +16,8 @@ mod time_zones;
 mod utc_moment;
 
 pub use job_filter::Filter;
-pub use job_marks::{marked_lines, marked_lines_in, unmarked_lines, unmarked_lines_in};
+pub use job_listing::list_jobs;
+pub use job_marks::marked_lines;
 pub use listing_fault::ListingFault;
 pub use time_zones::Zones;
 pub use utc_moment::moment_text;

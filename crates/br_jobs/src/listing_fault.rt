@@ -6,8 +6,8 @@ use br_choose::ChooseFault;
 use std::alloc::AllocError;
 use thiserror::Error;
 
-/// The reason why no jobs were marked as chosen.
-#[derive(Clone, Copy, Debug, PartialEq, Eq, Error)]
+/// Why no jobs were marked as chosen.
+#[derive(Clone, Copy, Debug, Error)]
 pub enum ListingFault {
     #[error("out of memory")]
     Memory,

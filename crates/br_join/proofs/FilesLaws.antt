@@ -1,5 +1,5 @@
 -- The files of hits in order, run by run.
-use Rattle.std.proofs.Common.{◌≡◌, ℕ, ◌<◌, length, Bool, true, false, List, [], ◌∷◌, ◌++◌, map, Some, Result, Ok, Err, IfOk, MatchResult, refl, sym, ap, subst, ◌∙◌}
+use Rattle.std.proofs.Common.{◌≡◌, ℕ, ◌<◌, length, Bool, true, false, List, [], ◌∷◌, ◌++◌, map, Some, Result, Ok, Err, IfOk, MatchResult, refl, sym, ap, subst, ◌∙◌, append_assoc}
 use mathlib.Core.List.{map-map}
 use Rattle.std.specs.Prelude.{slice_get, T}
 use Rattle.std.specs.List.{AllByRecursion, AllZip}
@@ -18,6 +18,7 @@ use Rattle.br_records.proofs.FilesLaws as each
 use Rattle.br_records.proofs.SortLaws.{key_cmp_is}
 use Rattle.br_join.specs.declared.item.Outcome.{Outcome}
 use Rattle.br_join.specs.Outcome.{restored}
+use Rattle.br_join.specs.Runs.{IsPart, Run, file_of}
 
 -- ---- the files that were found
 
@@ -37,6 +38,25 @@ found_turn = each.found_turn file_found
 pub none_found : files_found (listed []) ≡ []
 unfolding files_found
 none_found = each.none_found file_found
+
+-- these hits are the last ones
+abbrev pub AreBehind : List Hit → List Hit → Type 0
+AreBehind all rest = (front : List Hit) × (front ++ rest ≡ all)
+
+-- the hits of a file among the last ones are among all
+pub part_behind : (all rest before after : List Hit) (r : Run) → AreBehind all rest → before ++ (r.hits ++ after) ≡ rest → IsPart all r
+part_behind all rest before after r behind joined = record {
+  before = behind.0 ++ before;
+  after = after;
+  joined = append_assoc behind.0 before (r.hits ++ after) ∙ ap (λ (hs : List Hit). behind.0 ++ hs) joined ∙ behind.1;
+}
+
+-- the hits after them are the last ones
+pub behind_more : (all rest before run after : List Hit) → AreBehind all rest → before ++ (run ++ after) ≡ rest → AreBehind all after
+behind_more all rest before run after behind joined = (
+  behind.0 ++ (before ++ run),
+  append_assoc behind.0 (before ++ run) after ∙ ap (λ (hs : List Hit). behind.0 ++ hs) (append_assoc before run after ∙ joined) ∙ behind.1,
+)
 
 -- ---- the planned files
 
@@ -65,19 +85,19 @@ planned_files_are es names =
 -- ---- files that were made of runs
 
 -- if a file was made of each run, they are the files of the runs
-all_made : (E : Type 0) (runs : List Restored) (files : List (FileKey × Outcome))
-    → AllZip (λ (run : Restored) (made : Result (FileKey × Outcome) E). IfOk made (λ f. restored f ≡ run)) runs (map Ok files) → map restored files ≡ runs
+all_made : (E : Type 0) (runs : List Run) (files : List (FileKey × Outcome))
+    → AllZip (λ (run : Run) (made : Result (FileKey × Outcome) E). IfOk made (λ f. restored f ≡ file_of run)) runs (map Ok files) → map restored files ≡ map file_of runs
 all_made E [] [] h = refl
 all_made E [] (f ∷ fs) h = absurd h
 all_made E (r ∷ rs) [] h = absurd h
 all_made E (r ∷ rs) (f ∷ fs) h = λ i. h.0 i ∷ all_made E rs fs h.1 i
 
 -- what came of making a file of each run
-pub answer_made : (V E : Type 0) (items : V → List (FileKey × Outcome)) (runs : List Restored) (made : List (Result (FileKey × Outcome) E)) (r : Result V E) (Q : E → Type 0)
-    → AllZip (λ (run : Restored) (made : Result (FileKey × Outcome) E). IfOk made (λ f. restored f ≡ run)) runs made
-    → MatchResult r (λ v. (files : List (FileKey × Outcome)) × (made ≡ map Ok files) × (items v ≡ files)) Q → IfOk r (λ v. map restored (items v) ≡ runs)
+pub answer_made : (V E : Type 0) (items : V → List (FileKey × Outcome)) (runs : List Run) (made : List (Result (FileKey × Outcome) E)) (r : Result V E) (Q : E → Type 0)
+    → AllZip (λ (run : Run) (made : Result (FileKey × Outcome) E). IfOk made (λ f. restored f ≡ file_of run)) runs made
+    → MatchResult r (λ v. (files : List (FileKey × Outcome)) × (made ≡ map Ok files) × (items v ≡ files)) Q → IfOk r (λ v. map restored (items v) ≡ map file_of runs)
 answer_made V E items runs made (Err e) Q each from = tt
 answer_made V E items runs made (Ok v) Q each from =
-    let were_made : AllZip (λ (run : Restored) (m : Result (FileKey × Outcome) E). IfOk m (λ f. restored f ≡ run)) runs (map Ok from.0) =
-    subst (AllZip (λ (run : Restored) (m : Result (FileKey × Outcome) E). IfOk m (λ f. restored f ≡ run)) runs) from.1 each in
+    let were_made : AllZip (λ (run : Run) (m : Result (FileKey × Outcome) E). IfOk m (λ f. restored f ≡ file_of run)) runs (map Ok from.0) =
+    subst (AllZip (λ (run : Run) (m : Result (FileKey × Outcome) E). IfOk m (λ f. restored f ≡ file_of run)) runs) from.1 each in
     ap (map restored) from.2 ∙ all_made E runs from.0 were_made

@@ -18,8 +18,8 @@ use Rattle.br_join.specs.Data.{laid_from}
 use Rattle.br_records.specs.Making.{cause}
 use Rattle.br_join.specs.Plain.{plain_of, plain_data, plain_bytes, fitting_all, bytes_of}
 use Rattle.br_join.specs.Source.{bytes_by, content_by}
-use Rattle.br_join.specs.declared.data.Source.{Source}
-use Rattle.br_join.specs.declared.data.Source.TheVariants.{Read}
+use Rattle.br_join.specs.declared.file_source.Source.{Source}
+use Rattle.br_join.specs.declared.file_source.Source.TheVariants.{Read}
 use Rattle.br_records.specs.declared.making_fault.MakingFault.{MakingFault}
 use Rattle.br_records.specs.declared.making_fault.MakingFault.TheVariants.{Memory, File}
 use Rattle.br_records.proofs.ExtentLaws.{plain_extent}

@@ -1,5 +1,5 @@
 -- The files that hits make, in the order in which the set of them lists them.
-use Rattle.std.specs.Prelude.{ℕ, List, Option, Some, None, option_map}
+use Rattle.std.specs.Prelude.{◌≡◌, ◌++◌, ℕ, List, Option, Some, None, option_map}
 use Rattle.br_model.specs.Meaning.{Hit}
 use Rattle.br_model.specs.Name.{FileKey}
 use Rattle.br_model.specs.File.{Outcome}
@@ -12,9 +12,21 @@ abbrev pub named : Option (List ℕ) → Outcome → Outcome
 named None outcome = outcome
 named (Some path) outcome = under_name path outcome
 
--- the file that its hits make, in order of place, with its planned path if it has one
-abbrev pub file_of_run : FileKey → Option (List ℕ) → List Hit → Restored
-file_of_run key path hits = record { key = key; outcome = named path (outcome_of key (fragments hits)) }
+-- the hits of one file, in order of place, and the path under which the file was planned, if it was
+pub record Run : Type 0 where
+  pub key : FileKey
+  pub path : Option (List ℕ)
+  pub hits : List Hit
+
+-- the file that the hits of a run make
+abbrev pub file_of : Run → Restored
+file_of r = record { key = r.key; outcome = named r.path (outcome_of r.key (fragments r.hits)) }
+
+-- the hits of the run are some of these, one after another
+pub record IsPart (all : List Hit) (r : Run) : Type 0 where
+  pub before : List Hit
+  pub after : List Hit
+  pub joined : before ++ (r.hits ++ after) ≡ all
 
 -- the files of the hits: the planned ones if there are names, else those that were found
 abbrev pub files_of : List Hit → Option Names → List Restored

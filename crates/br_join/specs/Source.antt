@@ -4,8 +4,8 @@ use Rattle.br_model.specs.Answer.{◌>>=◌, refuse_if, refused_as}
 use Rattle.br_model.specs.File as model
 use Rattle.br_model.specs.Record.{Record}
 use Rattle.br_join.specs.Plain.{bytes_of}
-use Rattle.br_join.specs.declared.data.Source.{Source}
-use Rattle.br_join.specs.declared.data.Source.TheVariants.{Records, Read}
+use Rattle.br_join.specs.declared.file_source.Source.{Source}
+use Rattle.br_join.specs.declared.file_source.Source.TheVariants.{Records, Read}
 
 -- the bytes of a file of this type
 unfoldable pub bytes_by : Source → ℕ → List Record → Result (List ℕ) model.Fault

@@ -4,7 +4,7 @@ ghost use Rattle.br_join.specs.Fault.{fault_number};
 use thiserror::Error;
 
 /// The reason why a joiner took nothing.
-#[derive(Clone, Copy, Debug, PartialEq, Eq, Error)]
+#[derive(Clone, Copy, Debug, Error)]
 pub enum JoinFault {
     #[error("out of memory")]
     Memory,

@@ -5,8 +5,8 @@
 //! br_reread_files makes the files of them, with data that are read again.
 #![tactic(auto)]
 
-mod data;
 mod fault;
+mod file_source;
 mod held;
 mod item;
 mod joiner;
@@ -19,4 +19,4 @@ pub use fault::{JoinFault, Refused};
 pub use item::{Item, Outcome};
 pub use joiner::Joiner;
 pub use making::{outcome_of, outcome_with};
-pub use runs::named;
+pub use runs::{Run, named, runs_of};

@@ -9,7 +9,7 @@ ghost use Rattle.br_join.specs.Outcome.{shown};
 ghost use Rattle.br_join.specs.Plain.{plain_bytes, plain_data};
 ghost use Rattle.br_join.specs.Source.{content_by};
 
-use crate::data::Source;
+use crate::file_source::Source;
 use crate::item::{Item, Outcome};
 use br_data::FileBytes;
 use br_match::Hit;

@@ -1,10 +1,12 @@
-ghost use Rattle.std.specs.Prelude.{◌≡◌, All, map, IfOk};
+//! The files of hits, each with its own hits, and making them.
+ghost use Rattle.std.specs.Prelude.{◌≡◌, map, IfOk};
+ghost use Rattle.std.specs.List.{AllByRecursion};
 ghost use Rattle.std.specs.Option.{option_copied};
 ghost use Rattle.br_model.specs.Meaning as model;
-ghost use Rattle.br_model.specs.Restored.{files_found, files_planned, files_listed, planned_in};
+ghost use Rattle.br_model.specs.Restored.{files_found, files_planned, planned_in};
 ghost use Rattle.br_records.specs.Runs.{AreListed, listed};
 ghost use Rattle.br_join.specs.Outcome.{restored, shown};
-ghost use Rattle.br_join.specs.Runs.{file_of_run, files_of};
+ghost use Rattle.br_join.specs.Runs.{IsPart, file_of, files_of};
 ghost use Rattle.br_join.specs.Runs as run;
 
 use crate::item::Outcome;
@@ -17,27 +19,26 @@ use std::alloc::{AllocError, Global};
 use std::marker::Model;
 use std::thread::Threads;
 
-/// The hits of one file, in order of place, and the path under which the file was planned, if it
-/// was.
+/// The hits of one file, in order of place, and the path under which the file was planned, if it was.
 #[derive(Drop)]
-struct Run<'h> {
-    key: FileKey,
-    path: Option<&'h Path>,
-    hits: &'h [Hit],
+pub struct Run<'h> {
+    pub key: FileKey,
+    pub path: Option<&'h Path>,
+    pub hits: &'h [Hit],
 }
 
 impl<'h> Model for Run<'h> {
-    ghost use Rattle.std.specs.Prelude.{◌≡◌, All};
+    ghost use Rattle.std.specs.Prelude.{◌≡◌};
+    ghost use Rattle.std.specs.List.{AllByRecursion};
     ghost use Rattle.std.specs.Option.{option_copied};
     ghost use Rattle.br_model.specs.Meaning as meaning;
-    ghost use Rattle.br_model.specs.Restored.{Restored};
-    ghost use Rattle.br_join.specs.Runs.{file_of_run};
+    ghost use Rattle.br_join.specs.Runs as model;
 
-    ghost Value = { Restored };
+    ghost Value = { model.Run };
 
-    ghost view = { λ r. file_of_run r.key (option_copied r.path) r.hits.now };
+    ghost view = { λ r. record { key = r.key; path = option_copied r.path; hits = r.hits.now } };
 
-    ghost invariant = { λ r. All (λ (h : meaning.Hit). h.key ≡ r.key) r.hits.now };
+    ghost invariant = { λ r. AllByRecursion (λ (h : meaning.Hit). h.key ≡ r.key) r.hits.now };
 }
 
 /// Returns the outcome of a file under its planned path, if it has one.
@@ -53,15 +54,15 @@ pub fn named(path: Option<&Path>, outcome: Outcome) -> Outcome
 impl<'h> Run<'h> {
     /// Returns the run of these hits.
     fn new(key: FileKey, path: Option<&'h Path>, hits: &'h [Hit]) -> Run<'h>
-        requires { All (λ (h : model.Hit). h.key ≡ key) hits.now }
-        ensures { result ≡ file_of_run key (option_copied path.entry) hits.now }
+        requires { AllByRecursion (λ (h : model.Hit). h.key ≡ key) hits.now }
+        ensures { result ≡ record { key = key; path = option_copied path.entry; hits = hits.now } }
     {
         Run { key, path, hits }
     }
 
     /// Makes the file, and returns it with its outcome.
     fn make(&self, alloc: Global) -> Result<(FileKey, Outcome), AllocError>
-        ensures { IfOk result (λ file. restored file ≡ self.now) }
+        ensures { IfOk result (λ file. restored file ≡ file_of self.now) }
     {
         let outcome = outcome_of(alloc, self.key, self.hits)?;
         Ok((self.key, named(self.path, outcome)))
@@ -71,7 +72,8 @@ impl<'h> Run<'h> {
 /// Returns the runs of the files that were hit, in order of key.
 fn found_runs<'h>(alloc: Global, hits: &'h [Hit]) -> Result<Vec<Run<'h>>, AllocError>
     requires { AreListed hits.now }
-    ensures { IfOk result (λ runs. runs.items ≡ files_found (listed hits.now)) }
+    ensures files { IfOk result (λ runs. map file_of runs.items ≡ files_found (listed hits.now)) }
+    ensures parts { IfOk result (λ runs. AllByRecursion (IsPart hits.now) runs.items) }
 {
     let mut runs = Vec::new(alloc);
     let mut rest = hits;
@@ -92,7 +94,8 @@ fn planned_runs<'h>(
     names: &'h Names,
 ) -> Result<Vec<Run<'h>>, AllocError>
     requires { AreListed hits.now }
-    ensures { IfOk result (λ runs. runs.items ≡ files_planned (listed hits.now) (planned_in names.now)) }
+    ensures files { IfOk result (λ runs. map file_of runs.items ≡ files_planned (listed hits.now) (planned_in names.now)) }
+    ensures parts { IfOk result (λ runs. AllByRecursion (IsPart hits.now) runs.items) }
 {
     let mut runs = Vec::new(alloc);
     for (key, path) in names.iter() {
@@ -102,20 +105,42 @@ fn planned_runs<'h>(
     Ok(runs)
 }
 
+/// Returns the runs of the files of sorted hits, in order of key: the planned files if there is a plan,
+/// else those that were found. A planned file that was not hit has no hits.
+///
+/// # Errors
+///
+/// `AllocError` if memory runs out.
+#[tactic(auto, unfolding(br_model::specs::Restored::files_listed))]
+pub fn runs_of<'h>(
+    alloc: Global,
+    hits: &'h [Hit],
+    names: Option<&'h Names>,
+) -> Result<Vec<Run<'h>>, AllocError>
+    requires { AreListed hits.now }
+    ensures files { IfOk result (λ runs. map file_of runs.items ≡ files_of hits.now (option_copied names.entry)) }
+    ensures parts { IfOk result (λ runs. AllByRecursion (IsPart hits.now) runs.items) }
+{
+    match names {
+        None => found_runs(alloc, hits),
+        Some(names) => planned_runs(alloc, hits, names),
+    }
+}
+
 /// Makes the files of runs, in their order, in as many threads as there are processors.
 fn make_all(
     rt: &(impl Threads + Sync),
     alloc: Global,
     runs: &[Run<'_>],
 ) -> Result<Vec<(FileKey, Outcome)>, AllocError>
-    ensures { IfOk result (λ outcomes. map restored outcomes.items ≡ runs.now) }
+    ensures { IfOk result (λ outcomes. map restored outcomes.items ≡ map file_of runs.now) }
 {
     // Files differ in size, and making one is worth a thread.
     runs.par_iter()
         .with_min_len(1)
         .map(
             |run: &Run<'_>| -> Result<(FileKey, Outcome), AllocError>
-                ensures { IfOk result (λ file. restored file ≡ run.now) }
+                ensures { IfOk result (λ file. restored file ≡ file_of run.now) }
             { run.make(alloc) },
         )
         .collect::<Result<Vec<(FileKey, Outcome)>, AllocError>>(rt, alloc)?
@@ -123,7 +148,6 @@ fn make_all(
 
 /// Returns the files of sorted hits: the planned ones if there is a plan, else those that were
 /// found.
-#[tactic(auto, unfolding(br_model::specs::Restored::files_listed))]
 pub(crate) fn files_of(
     rt: &(impl Threads + Sync),
     alloc: Global,
@@ -133,8 +157,6 @@ pub(crate) fn files_of(
     requires { AreListed hits.now }
     ensures { IfOk result (λ outcomes. map restored outcomes.items ≡ files_of hits.now (option_copied names.entry)) }
 {
-    match names {
-        None => make_all(rt, alloc, &found_runs(alloc, hits)?),
-        Some(names) => make_all(rt, alloc, &planned_runs(alloc, hits, names)?),
-    }
+    let runs = runs_of(alloc, hits, names)?;
+    make_all(rt, alloc, &runs)
 }

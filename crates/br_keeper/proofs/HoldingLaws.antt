@@ -16,7 +16,7 @@ use Rattle.br_keeper.specs.Beginnings.{Beginning}
 use Rattle.br_keeper.specs.declared.vouched_lengths.Vouch.{Vouch}
 use Rattle.br_keeper.specs.declared.fault.KeeperFault.{KeeperFault}
 use Rattle.br_keeper.specs.declared.fault.KeeperFault.TheVariants.{Memory, DuplicateJob, DuplicateSession, BadRow, RetiredVolume, Volume as VolumeFails, Store, StoredNotPublished, BadCatalogue}
-use Rattle.br_keeper.specs.Preparing.{IsJobWritten, job_rows}
+use Rattle.br_history.specs.Preparing.{IsJobWritten, job_rows}
 use Rattle.br_keeper.specs.Writing.{Shelf, AppendInTurn, IsVouched}
 use Rattle.br_keeper.specs.Vouching.{vouched}
 use Rattle.br_keeper.specs.Keeping.{Keeping, jobs_of}
@@ -79,7 +79,8 @@ module _ {C W : Type 0} (inserts refuses : JobRows → C → C → Type 0) (shel
       holds_after (vouched old.vouches history) c is.written rows old.vouches old.volumes new.volumes is.ready.session.rows_are is.ready.session.is_written
       is.blocks.serve is.blocks.written.appended
 
-  pub commits_hold : (old new : Keeping C W) (r : Result Beginning KeeperFault) → Commits inserts refuses shelf c old new r → HoldsJob refuses shelf c old new r
+  pub commits_hold : (old new : Keeping C W) (r : Result Beginning KeeperFault) → Commits inserts refuses shelf c old new r
+      → HoldsJob (record { inserts = inserts; refuses = refuses; shelf = shelf }) c old new r
   commits_hold old new (Ok receipt) is =
       (is.0, is.2, written_holds inserts (jobs_of old) old.catalogue new.catalogue (shelf old) (shelf new) is.0 is.1)
   commits_hold old new (Err StoredNotPublished) is =

@@ -5,7 +5,7 @@ use Rattle.logbook.specs.Pages.{Book}
 use Rattle.br_model.specs.Job.{JobRows}
 use Rattle.br_keeper.specs.declared.published.Added.{Added}
 use Rattle.crossbeam_utils.specs.Register.{TurnsAt}
-use Rattle.br_keeper.specs.declared.published.View.{View}
+use Rattle.br_keeper.specs.declared.published.PublishedView.{PublishedView}
 use Rattle.br_keeper.specs.declared.published.Published.{Published}
 use Rattle.br_keeper.specs.Beginnings.{Beginning, beginning}
 use Rattle.br_keeper.specs.Keeps.{knowing, book_in, Keeps}
@@ -41,20 +41,20 @@ nothing_more None more e = append-nil more
 nothing_more (Some a) more e = absurd (cc)
 
 -- what a publish of all that waits shows
-pub published_is : (v : View) (jobs : List JobRows) (now : Beginning) (waiting : List Added) (opening : List JobRows) (shown front : Beginning) (y : Published) → IsWriter v jobs now waiting opening shown front
+pub published_is : (v : PublishedView) (jobs : List JobRows) (now : Beginning) (waiting : List Added) (opening : List JobRows) (shown front : Beginning) (y : Published) → IsWriter v jobs now waiting opening shown front
     → (y.history, y.front) ≡ fold (λ (s : List JobRows × Beginning) (a : Added). (s.0 ++ a.rows ∷ [], a.front)) (jobs, now) waiting → (y.history ≡ opening ++ front.log) × (y.front ≡ front)
 published_is v jobs now waiting opening shown front y w is = let P : Beginning → Type 0 = λ b. Leads b waiting front in
     let e = is ∙ leads_fold opening jobs now waiting front (w.jobs_are ∙ ap (λ (b : Beginning). opening ++ b.log) (sym w.now_is)) (subst P (sym w.now_is) w.leads) in
     (ap (λ (p : List JobRows × Beginning). p.0) e, ap (λ (p : List JobRows × Beginning). p.1) e)
 
-pub publish_step : (seat : ℕ) (v : View) (x : Published) (waiting : List Added) (opening : List JobRows) (shown front : Beginning) (y : Published) → IsWriter v x.history x.front waiting opening shown front
+pub publish_step : (seat : ℕ) (v : PublishedView) (x : Published) (waiting : List Added) (opening : List JobRows) (shown front : Beginning) (y : Published) → IsWriter v x.history x.front waiting opening shown front
     → (y.history, y.front) ≡ fold (λ (s : List JobRows × Beginning) (a : Added). (s.0 ++ a.rows ∷ [], a.front)) (x.history, x.front) waiting
     → TurnsAt (λ (x : Published). Keeps x.history x.front) seat v x y (λ v x y w. w ≡ v)
 publish_step seat v x waiting opening shown front y w is = let p = published_is v x.history x.front waiting opening shown front y w is in
-    let o : v.opening ≡ opening = ap (λ (z : View). z.opening) w.knows in
-    publishes seat v x y (ap (λ (z : View). z.knows) w.knows) (ap (λ (b : Beginning). b.book) p.1 ∙ ap book_in (sym w.knows)) (p.0 ∙ ap (λ (b : Beginning). opening ++ b.log) (sym p.1) ∙ ap (λ l. l ++ y.front.log) (sym o))
+    let o : v.opening ≡ opening = ap (λ (z : PublishedView). z.opening) w.knows in
+    publishes seat v x y (ap (λ (z : PublishedView). z.knows) w.knows) (ap (λ (b : Beginning). b.book) p.1 ∙ ap book_in (sym w.knows)) (p.0 ∙ ap (λ (b : Beginning). opening ++ b.log) (sym p.1) ∙ ap (λ l. l ++ y.front.log) (sym o))
 
-pub writer_on : (v u : View) (jobs jobs' : List JobRows) (now now' : Beginning) (waiting waiting' : List Added) (opening : List JobRows) (shown front : Beginning) → u ≡ v → jobs' ≡ jobs → now' ≡ now → waiting' ≡ waiting
+pub writer_on : (v u : PublishedView) (jobs jobs' : List JobRows) (now now' : Beginning) (waiting waiting' : List Added) (opening : List JobRows) (shown front : Beginning) → u ≡ v → jobs' ≡ jobs → now' ≡ now → waiting' ≡ waiting
     → IsWriter v jobs now waiting opening shown front → IsWriter u jobs' now' waiting' opening shown front
 writer_on v u jobs jobs' now now' waiting waiting' opening shown front a b c d w = let P : List Added → Type 0 = λ l. Leads shown l front in record { knows = a ∙ w.knows; now_is = c ∙ w.now_is; jobs_are = b ∙ w.jobs_are; leads = subst P (sym d) w.leads }
 
@@ -77,7 +77,7 @@ pub none_is : (o : Option Added) → false ≡ is_some o → o ≡ None
 none_is None e = refl
 none_is (Some a) e = absurd (cc)
 
-pub writer_stored : (v : View) (jobs : List JobRows) (now : Beginning) (more : List Added) (o : Option Added) (opening : List JobRows) (shown front next : Beginning) (a : Added) → o ≡ None → a.front ≡ next → next ≡ beginning front.book (front.log ++ a.rows ∷ [])
+pub writer_stored : (v : PublishedView) (jobs : List JobRows) (now : Beginning) (more : List Added) (o : Option Added) (opening : List JobRows) (shown front next : Beginning) (a : Added) → o ≡ None → a.front ≡ next → next ≡ beginning front.book (front.log ++ a.rows ∷ [])
     → IsWriter v jobs now (more ++ listed o) opening shown front → IsWriter v jobs now (more ++ a ∷ []) opening shown next
 writer_stored v jobs now more o opening shown front next a none same is w = record {
   knows = w.knows ∙ ap (λ (b : Book). knowing b opening) (sym (ap (λ (b : Beginning). b.book) is));

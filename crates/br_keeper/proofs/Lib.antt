@@ -2,6 +2,7 @@ mod PreparingLaws
 mod VouchLaws
 mod WritingLaws
 mod HoldingLaws
+pub mod OutcomeLaws
 pub mod AddingLaws
 pub mod BeginningLaws
 pub mod LeadingLaws

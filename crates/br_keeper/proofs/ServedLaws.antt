@@ -1,24 +1,18 @@
 -- What one request leaves, and what its reply says.
 use Rattle.std.proofs.Common.{◌≡◌, List, [], ◌∷◌, ◌++◌, Result, Ok, Err, refl, sym, ap, ◌∙◌, append_assoc, append-nil, inl, inr, Some}
 use Rattle.logbook.specs.Pages.{Book}
-use Rattle.br_model.specs.Job.{JobRow, JobRows, Span}
-use Rattle.br_model.specs.Session.{rows_of}
+use Rattle.br_model.specs.Job.{JobRow, JobRows}
 use Rattle.br_history.specs.Saving.{ToCommit}
 use Rattle.br_keeper.specs.Beginnings.{Beginning, last_id}
 use Rattle.br_keeper.specs.Publishing.{Publishing, all_published}
 use Rattle.br_keeper.proofs.BeginningLaws.{last_of_added}
 use Rattle.br_keeper.specs.declared.fault.KeeperFault.{KeeperFault}
 use Rattle.br_keeper.specs.declared.fault.KeeperFault.TheVariants.{Memory, DuplicateJob, DuplicateSession, BadRow, RetiredVolume, Volume, Store, StoredNotPublished, BadCatalogue}
-use Rattle.br_keeper.specs.Preparing.{job_rows}
 use Rattle.br_keeper.specs.Writing.{Shelf}
 use Rattle.br_keeper.specs.Keeping.{Keeping}
 use Rattle.br_keeper.specs.Committing.{Commits}
 use Rattle.br_keeper.specs.Channel.{HasServed, IsReply, Step, IsCommit, AreCommits, IsLeftByCommits}
-
--- the rows of a job have its own row
-row_stays : (c : ToCommit) (spans : List Span) → (job_rows c spans).row ≡ c.row
-unfolding rows_of
-row_stays c spans = refl
+use Rattle.br_history.proofs.PreparingLaws.{row_stays}
 
 pub served_none : (a : Publishing) → HasServed a a
 served_none a = (refl, refl, ([], sym (append-nil a.added)))

@@ -6,12 +6,13 @@ use Rattle.std.specs.Global.{Vec}
 use Rattle.std.specs.List.{AllByRecursion}
 use Rattle.br_model.specs.Volume.{Volume}
 use Rattle.br_model.proofs.ListLaws.{all_append}
-use Rattle.br_volume.specs.Store.{AppendsTo, AppendsInPartTo, AreAppendedInTurn, IsAppended}
+use Rattle.br_volume.specs.Store.{AppendsTo, AppendsInPartTo}
 use Rattle.br_keeper.specs.declared.vouched_lengths.Vouch.{Vouch}
 use Rattle.br_keeper.specs.declared.fault.KeeperFault.{KeeperFault}
-use Rattle.br_keeper.specs.Preparing.{seen}
+use Rattle.br_history.specs.Preparing.{seen}
 use Rattle.br_keeper.specs.Vouching.{changed, is_retired, longer, new_entries, retired}
 use Rattle.br_keeper.specs.Writing.{Shelf, AppendInTurn, AppendsAll, AreWritten, ChecksVolume, ChecksVolumes, HasOtherLength, IsCutOff, IsKept, IsVouched, WritesBlocks, after_blocks, with_entries}
+use Rattle.br_volume.proofs.AppendLaws.{in_turn_more}
 
 -- ---- lists up to a place
 
@@ -29,11 +30,6 @@ all_next {X} P xs i x lt is all one =
     (all_append P (take i xs) (x ∷ []) all (one, tt))
 
 -- ---- blocks in turn
-
-in_turn_more : (blocks : List (List ℕ × List ℕ)) (block : List ℕ × List ℕ) (earlier middle later : List Volume) → AreAppendedInTurn blocks earlier middle
-    → IsAppended block.0 block.1 middle later → AreAppendedInTurn (blocks ++ block ∷ []) earlier later
-in_turn_more [] block earlier middle later is one = (later, subst (λ (m : List Volume). IsAppended block.0 block.1 m later) is one, refl)
-in_turn_more (b ∷ bs) block earlier middle later is one = (is.0, is.1, in_turn_more bs block is.0 middle later is.2 one)
 
 turn_more : (blocks : List (List ℕ × List ℕ)) (block : List ℕ × List ℕ) (earlier middle later : Option (List Volume)) → AppendInTurn blocks earlier middle
     → AppendsTo block.0 block.1 middle later → AppendInTurn (blocks ++ block ∷ []) earlier later

@@ -43,7 +43,8 @@ pub record Step (C W : Type 0) : Type 0 where
 module _ {C W : Type 0} (inserts refuses : JobRows → C → C → Type 0) (shelf : Keeping C W → Shelf) where
   -- the keeper after the job was committed, or refused
   abbrev pub IsCommit : ToCommit → Keeping C W → Keeping C W → Result Beginning KeeperFault → Type 0
-  IsCommit c old new result = Commits inserts refuses shelf c old new result × HoldsJob refuses shelf c old new result
+  IsCommit c old new result =
+      Commits inserts refuses shelf c old new result × HoldsJob (record { inserts = inserts; refuses = refuses; shelf = shelf }) c old new result
 
   -- the keeper after these commits, one after the other
   abbrev pub AreCommits : List (Step C W) → Keeping C W → Keeping C W → Type 0

@@ -1,5 +1,5 @@
--- The effect of a commit on its job.
-use Rattle.std.specs.Prelude.{◌≡◌, ℕ, ◌<◌, ◌⊎◌, List, [], ◌∷◌, ◌++◌, Result, Ok, Err}
+-- What becomes of a job that is committed.
+use Rattle.std.specs.Prelude.{◌≡◌, ℕ, ◌<◌, ◌⊎◌, List, [], ◌∷◌, ◌++◌, Result, Ok, Err, ⊤}
 use Rattle.br_model.specs.Job.{JobRows}
 use Rattle.br_model.specs.Session.{Written}
 use Rattle.br_history.specs.Saving.{ToCommit}
@@ -11,7 +11,7 @@ use Rattle.br_keeper.specs.declared.fault.KeeperFault.{KeeperFault}
 use Rattle.br_keeper.specs.declared.fault.KeeperFault.TheVariants.{Memory, DuplicateJob, DuplicateSession, BadRow, RetiredVolume, Volume as VolumeFails, Store, StoredNotPublished, BadCatalogue}
 use Rattle.br_keeper.specs.Fault.{of_store_fault}
 use Rattle.br_keeper.specs.Vouching.{starts_of}
-use Rattle.br_keeper.specs.Preparing.{AreTooLong, IsSession}
+use Rattle.br_history.specs.Preparing.{AreTooLong, IsSession}
 use Rattle.br_keeper.specs.Writing.{Shelf, IsKept, IsRetired, AreWrittenFrom, IsCutOffFrom}
 use Rattle.br_keeper.specs.Keeping.{Keeping, jobs_of}
 
@@ -54,21 +54,30 @@ pub record MeetsFailure (history : List JobRows) (c : ToCommit) (old new : Shelf
 abbrev pub IsTooLong : List JobRows → ToCommit → Shelf → Type 0
 IsTooLong history c old = (admitted history c.row ≡ Ok history) × AreTooLong c (starts_for history c old)
 
--- The result for a job that is to be stored after these others. In the order of the refusals: its
--- number or its session is in use; a span would end too late; a volume is retired; the store of
--- volumes fails; the catalogue fails. Memory may run out before the first append.
+-- why a job is refused before anything of it is stored: its number is there, or its session; a span
+-- would end too far; a volume is retired; or memory runs out
+abbrev pub IsReason : List JobRows → ToCommit → Shelf → KeeperFault → Type 0
+IsReason history c old Memory = ⊤
+IsReason history c old DuplicateJob = admitted history c.row ≡ Err 40
+IsReason history c old DuplicateSession = admitted history c.row ≡ Err 41
+IsReason history c old BadRow = IsTooLong history c old
+IsReason history c old RetiredVolume = MeetsRetired history c old
+IsReason history c old VolumeFails = ⊥
+IsReason history c old Store = ⊥
+IsReason history c old StoredNotPublished = ⊥
+IsReason history c old BadCatalogue = ⊥
+
+-- What becomes of a job that is to be stored, among these others. After the early refusals, in this
+-- order, the store of volumes fails, or the catalogue. Memory may run out before the first append.
 abbrev pub StoresJob : {C : Type 0} → (JobRows → C → C → Type 0) → (JobRows → C → C → Type 0) → List JobRows → ToCommit → C → C → Shelf → Shelf → Result JobRows KeeperFault → Type 0
 StoresJob inserts refuses history c before after old new (Ok rows) = IsWrittenTo inserts history c before after old new rows
 StoresJob inserts refuses history c before after old new (Err Memory) = IsUntouched before after old new
-StoresJob inserts refuses history c before after old new (Err DuplicateJob) = IsUntouched before after old new × (admitted history c.row ≡ Err 40)
-StoresJob inserts refuses history c before after old new (Err DuplicateSession) = IsUntouched before after old new × (admitted history c.row ≡ Err 41)
-StoresJob inserts refuses history c before after old new (Err BadRow) = IsUntouched before after old new × IsTooLong history c old
-StoresJob inserts refuses history c before after old new (Err RetiredVolume) = IsUntouched before after old new × MeetsRetired history c old
 StoresJob inserts refuses history c before after old new (Err VolumeFails) =
     (after ≡ before) × ((IsKept old new × (old.failures < new.failures)) ⊎ MeetsFailure history c old new)
 StoresJob inserts refuses history c before after old new (Err Store) = (rows : JobRows) × IsWrittenTo refuses history c before after old new rows
 StoresJob inserts refuses history c before after old new (Err StoredNotPublished) = ⊥
 StoresJob inserts refuses history c before after old new (Err BadCatalogue) = ⊥
+StoresJob inserts refuses history c before after old new (Err why) = IsUntouched before after old new × IsReason history c old why
 
 -- the result for a job that is to be stored after those that a keeper has published
 abbrev pub Stores : {C W : Type 0} → (JobRows → C → C → Type 0) → (JobRows → C → C → Type 0) → (Keeping C W → Shelf) → ToCommit → Keeping C W → Keeping C W → Result JobRows KeeperFault → Type 0

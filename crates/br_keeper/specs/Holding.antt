@@ -11,8 +11,8 @@ use Rattle.br_keeper.specs.Beginnings.{Beginning}
 use Rattle.br_keeper.specs.Publishing.{all_published, with_added}
 use Rattle.br_keeper.specs.declared.fault.KeeperFault.{KeeperFault}
 use Rattle.br_keeper.specs.declared.fault.KeeperFault.TheVariants.{Store, StoredNotPublished}
-use Rattle.br_keeper.specs.Writing.{Shelf}
 use Rattle.br_keeper.specs.Keeping.{Keeping}
+use Rattle.br_keeper.specs.Outcomes.{Backing}
 
 -- the job with these rows
 abbrev pub job_with : ToCommit → JobRows → Job
@@ -30,11 +30,11 @@ HoldsAfter c rows (Some earlier) None = ⊤
 HoldsAfter c rows (Some earlier) (Some later) = AllByRecursion (IsWholeAt earlier) c.places → Holds later (job_with c rows)
 
 -- The volumes hold a job that was stored, published or not, and one that the catalogue refused.
-abbrev pub HoldsJob : {C W : Type 0} → (JobRows → C → C → Type 0) → (Keeping C W → Shelf) → ToCommit → Keeping C W → Keeping C W → Result Beginning KeeperFault → Type 0
-HoldsJob refuses shelf c old new (Ok receipt) =
-    (rows : JobRows) × (new.list ≡ all_published (with_added old.list rows)) × HoldsAfter c rows (shelf old).volumes (shelf new).volumes
-HoldsJob refuses shelf c old new (Err StoredNotPublished) =
-    (rows : JobRows) × (new.list ≡ with_added (all_published old.list) rows) × HoldsAfter c rows (shelf old).volumes (shelf new).volumes
-HoldsJob refuses shelf c old new (Err Store) =
-    (rows : JobRows) × refuses rows old.catalogue new.catalogue × HoldsAfter c rows (shelf old).volumes (shelf new).volumes
-HoldsJob refuses shelf c old new (Err why) = ⊤
+abbrev pub HoldsJob : {C W : Type 0} → Backing C W → ToCommit → Keeping C W → Keeping C W → Result Beginning KeeperFault → Type 0
+HoldsJob b c old new (Ok receipt) =
+    (rows : JobRows) × (new.list ≡ all_published (with_added old.list rows)) × HoldsAfter c rows (b.shelf old).volumes (b.shelf new).volumes
+HoldsJob b c old new (Err StoredNotPublished) =
+    (rows : JobRows) × (new.list ≡ with_added (all_published old.list) rows) × HoldsAfter c rows (b.shelf old).volumes (b.shelf new).volumes
+HoldsJob b c old new (Err Store) =
+    (rows : JobRows) × b.refuses rows old.catalogue new.catalogue × HoldsAfter c rows (b.shelf old).volumes (b.shelf new).volumes
+HoldsJob b c old new (Err why) = ⊤

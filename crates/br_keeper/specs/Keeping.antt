@@ -1,10 +1,10 @@
--- How callers see a keeper.
-use Rattle.std.specs.Prelude.{◌≡◌, ℕ, List, ◌++◌, Option, MatchOption, refl}
+-- What callers see of a keeper.
+use Rattle.std.specs.Prelude.{◌≡◌, ℕ, List, [], ◌++◌, Option, MatchOption, refl}
 use Rattle.std.specs.Coded.{Coded, code_by, coded×, coded_list}
 use Rattle.br_model.specs.Volume.{Volume}
 use Rattle.br_model.specs.Job.{JobRows}
 use Rattle.br_keeper.specs.Beginnings.{Beginning, beginning}
-use Rattle.br_keeper.specs.Publishing.{Publishing, all_published}
+use Rattle.br_keeper.specs.Publishing.{Publishing, all_published, publishing}
 use Rattle.br_keeper.specs.declared.vouched_lengths.Vouch.{Vouch}
 use Rattle.br_keeper.specs.contracts.vouched_lengths.Vouch as vouch
 use Rattle.br_keeper.specs.Writing.{Shelf, shelf_in}
@@ -29,6 +29,10 @@ module _ {C W : Type 0} where
   -- all jobs that are stored
   abbrev pub jobs_of : Keeping C W → List JobRows
   jobs_of k = k.list.opening ++ k.list.added
+
+  -- the keeper is over these volumes, vouches for no length, and has published what its catalogue had
+  abbrev pub IsNew : W → Keeping C W → Type 0
+  IsNew volumes k = (k.list ≡ publishing k.list.book k.list.opening [] []) × (k.volumes ≡ volumes) × (k.vouches ≡ [])
 
   -- the volumes and the vouched lengths
   abbrev pub shelf_of : (W → Option (List Volume)) → (W → ℕ) → Keeping C W → Shelf

@@ -5,6 +5,7 @@ pub mod Writing
 pub mod Listing
 pub mod Keeping
 pub mod Committing
+pub mod Outcomes
 pub mod Holding
 pub mod Beginnings
 pub mod Keeps

@@ -6,7 +6,7 @@ use Rattle.left_right.specs.declared.writer.Writer.{Writer}
 use Rattle.br_model.specs.Job.{JobRows}
 use Rattle.br_keeper.specs.declared.published.Added.{Added}
 use Rattle.br_keeper.specs.declared.published.Published.{Published}
-use Rattle.br_keeper.specs.declared.published.View.{View}
+use Rattle.br_keeper.specs.declared.published.PublishedView.{PublishedView}
 use Rattle.br_keeper.specs.Beginnings.{Beginning, beginning}
 use Rattle.br_keeper.specs.Keeps.{knowing}
 
@@ -22,7 +22,7 @@ Leads f (a ∷ more) g = (a.front ≡ beginning f.book (f.log ++ a.rows ∷ []))
 
 -- the writer shows the opening jobs and then `shown`, and the waiting additions lead from
 -- there to `front`
-pub record IsWriter (v : View) (jobs : List JobRows) (now : Beginning) (waiting : List Added) (opening : List JobRows) (shown front : Beginning) : Type 0 where
+pub record IsWriter (v : PublishedView) (jobs : List JobRows) (now : Beginning) (waiting : List Added) (opening : List JobRows) (shown front : Beginning) : Type 0 where
   pub knows : v ≡ knowing front.book opening
   pub now_is : now ≡ shown
   pub jobs_are : jobs ≡ opening ++ shown.log
@@ -30,21 +30,21 @@ pub record IsWriter (v : View) (jobs : List JobRows) (now : Beginning) (waiting 
 
 module _ {P A S : Type 0} {g : Ghosts Published Added S} where
   -- the jobs that the writer has taken and does not show yet
-  abbrev pub waiting_in : Writer Published Added View P A S g → List Added
+  abbrev pub waiting_in : Writer Published Added PublishedView P A S g → List Added
   waiting_in w = drop w.behind w.log.items
 
   -- the writer shows the opening jobs and then `shown`, and the waiting additions lead to `front`
-  abbrev pub Shows : Writer Published Added View P A S g → List Added → List JobRows → Beginning → Beginning → Type 0
+  abbrev pub Shows : Writer Published Added PublishedView P A S g → List Added → List JobRows → Beginning → Beginning → Type 0
   Shows w waiting opening shown front =
       IsWriter (view w.desk.place) w.desk.shown.value.history w.desk.shown.value.front waiting opening shown front
 
   -- the same, if all is published; else the writer shows the same as before
-  abbrev pub ShowsIfDone : Bool → Writer Published Added View P A S g → List Added → List JobRows → Beginning → Beginning → Type 0
+  abbrev pub ShowsIfDone : Bool → Writer Published Added PublishedView P A S g → List Added → List JobRows → Beginning → Beginning → Type 0
   ShowsIfDone done w waiting opening shown front =
       MatchBool done (Shows w waiting opening front front) (Shows w waiting opening shown front)
 
   -- the writer shows the same as before, the same waits, and it sees the same of its rule
-  abbrev pub ShowsAsBefore : Writer Published Added View P A S g → Writer Published Added View P A S g → Type 0
+  abbrev pub ShowsAsBefore : Writer Published Added PublishedView P A S g → Writer Published Added PublishedView P A S g → Type 0
   ShowsAsBefore old new =
       (new.desk.shown ≡ old.desk.shown) × (new.log ≡ old.log)
       × (new.behind ≡ old.behind) × (view new.desk.place ≡ view old.desk.place)

@@ -1,6 +1,6 @@
 //! Appends the blocks of a session to volumes.
 ghost use Rattle.std.specs.Prelude.{◌≡◌, ◌≤◌};
-ghost use Rattle.br_keeper.specs.Preparing.{seen};
+ghost use Rattle.br_history.specs.Preparing.{seen};
 ghost use Rattle.br_keeper.specs.Writing.{AppendsAllTo, ChecksVolume, ChecksVolumes, WritesBlocksTo};
 
 use crate::fault::KeeperFault;

@@ -7,7 +7,7 @@ use br_history::History;
 use thiserror::Error;
 
 /// Why a catalogue was not opened, or its jobs were not loaded.
-#[derive(Clone, Copy, Debug, PartialEq, Eq, Error)]
+#[derive(Clone, Copy, Debug, Error)]
 pub enum CatalogueFault {
     #[error("out of memory")]
     Memory,

@@ -5,7 +5,7 @@ use br_history::{History, JobRows};
 use thiserror::Error;
 
 /// Why a job was not inserted, or the jobs were not loaded.
-#[derive(Clone, Copy, Debug, PartialEq, Eq, Error)]
+#[derive(Clone, Copy, Debug, Error)]
 pub enum JobStoreFault {
     #[error("out of memory")]
     Memory,

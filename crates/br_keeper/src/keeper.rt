@@ -1,12 +1,13 @@
 //! The keeper.
-ghost use Rattle.std.specs.Prelude.{◌≡◌, ◌<◌, [], length, IfErr, IfOk, Ok, OnErr, OnOk, MatchResult};
+ghost use Rattle.std.specs.Prelude.{◌≡◌, ◌<◌, [], length, Err, IfErr, IfOk, Ok, OnErr, OnOk, MatchResult};
 ghost use Rattle.br_volume.specs.Store.{AppendsInPartTo, AppendsTo};
-ghost use Rattle.br_keeper.specs.Publishing.{publishing};
 ghost use Rattle.br_keeper.specs.Sessions.{AllKnow};
 ghost use Rattle.br_keeper.specs.Vouching.{vouched};
-ghost use Rattle.br_keeper.specs.Keeping.{RepublishesKept, jobs_of, shelf_of};
+ghost use Rattle.br_keeper.specs.Keeping.{IsNew, RepublishesKept, jobs_of, shelf_of};
 ghost use Rattle.br_keeper.specs.Committing.{Commits, IsNotMade, Stores};
 ghost use Rattle.br_keeper.specs.Holding.{HoldsJob};
+ghost use Rattle.br_keeper.specs.Outcomes.{AppendsFrontAndRetires, IsEarly, OnlyAppends, Refuses, StoresAndPublishes, StoresUnpublished, backing};
+ghost use Rattle.br_keeper.specs.declared.fault.KeeperFault.TheVariants.{Store, StoredNotPublished, Volume};
 
 use crate::appending::write_blocks;
 use crate::fault::KeeperFault;
@@ -58,8 +59,7 @@ impl<C: JobStore + Drop, W: VolumeStore + Drop> Keeper<C, W> {
     ) -> Result<(Keeper<C, W>, Vec<Session>), KeeperFault>
         requires sessions { (0 < sessions) × (sessions < 17) }
         ensures opening { IfOk result (λ r. C.loads catalogue r.0.catalogue (Ok r.0.list.opening)) }
-        ensures keeper { IfOk result (λ r. (r.0.list ≡ publishing r.0.list.book r.0.list.opening [] [])
-            × (r.0.volumes ≡ volumes) × (r.0.vouches ≡ [])) }
+        ensures keeper { IfOk result (λ r. IsNew volumes r.0) }
         ensures sessions { IfOk result (λ r. AllKnow r.0.list.book r.0.list.opening [] r.1.items × (length r.1.items ≡ sessions)) }
         ensures refused { IfErr result (λ why. IsNotMade C.loads catalogue why) }
     {
@@ -115,9 +115,14 @@ impl<C: JobStore, W: VolumeStore> Keeper<C, W> {
     /// - `StoredNotPublished` if memory runs out for the publishing. All blocks are appended, and
     ///   the catalogue has the job.
     pub fn commit<R: Wait>(&mut self, rt: &R, job: SavedJob) -> Result<Receipt, KeeperFault>
-        ensures commits { Commits C.inserts C.refuses (shelf_of W.holds W.failures) job self.old self.new result }
-        ensures holds { HoldsJob C.refuses (shelf_of W.holds W.failures) job self.old self.new result }
+        ensures stored { IfOk result (StoresAndPublishes (backing C.JobStore W.VolumeStore) job self.old self.new) }
+        ensures waits { result ≡ Err StoredNotPublished → StoresUnpublished (backing C.JobStore W.VolumeStore) job self.old self.new }
+        ensures blocks { result ≡ Err Store → OnlyAppends (backing C.JobStore W.VolumeStore) job self.old self.new }
+        ensures torn { result ≡ Err Volume → AppendsFrontAndRetires (backing C.JobStore W.VolumeStore) job self.old self.new }
+        ensures refused { IfErr result (λ why. IsEarly why → Refuses (backing C.JobStore W.VolumeStore) job self.old self.new why) }
+        ensures holds { HoldsJob (backing C.JobStore W.VolumeStore) job self.old self.new result }
     {
+        // One clause of `commit_saved` says all outcomes at once: it is proved step by step.
         self.commit_saved(rt, &job)
     }
 

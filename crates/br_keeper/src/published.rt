@@ -61,7 +61,7 @@ impl Absorb<Added> for Published {
 
 /// The list of what is published, and the jobs before it, once they are known. No value of it is
 /// made.
-pub(crate) struct View {
+pub(crate) struct PublishedView {
     pub(crate) knows: bool,
     pub(crate) number: u64,
     pub(crate) log_name: u64,
@@ -72,7 +72,7 @@ pub(crate) struct View {
 /// The rule: what is published is the opening jobs and then a beginning of the one list.
 pub(crate) struct OneList;
 
-impl Protocol<Published, View> for OneList {
+impl Protocol<Published, PublishedView> for OneList {
     ghost use Rattle.br_keeper.specs.Keeps.{Keeps, stranger};
 
     ghost holds = { λ x views. Keeps x.history x.front views };
@@ -83,7 +83,7 @@ impl Protocol<Published, View> for OneList {
 /// The first publish: from then on the publisher knows the list.
 pub(crate) struct Begins;
 
-impl Outcome<Published, View> for Begins {
+impl Outcome<Published, PublishedView> for Begins {
     ghost use Rattle.std.specs.Prelude.{◌≡◌};
     ghost use Rattle.br_keeper.specs.Keeps.{knowing};
 
@@ -93,7 +93,7 @@ impl Outcome<Published, View> for Begins {
 /// A later publish.
 pub(crate) struct Publishes;
 
-impl Outcome<Published, View> for Publishes {
+impl Outcome<Published, PublishedView> for Publishes {
     ghost use Rattle.std.specs.Prelude.{◌≡◌};
 
     ghost then = { λ v x y w. w ≡ v };
@@ -102,7 +102,7 @@ impl Outcome<Published, View> for Publishes {
 /// A session enters, and sees what is published.
 pub(crate) struct Sees;
 
-impl Outcome<Published, View> for Sees {
+impl Outcome<Published, PublishedView> for Sees {
     ghost use Rattle.br_keeper.specs.Keeps.{Saw};
 
     ghost then = { λ v x y w. Saw v x.history x.front w };
@@ -111,13 +111,13 @@ impl Outcome<Published, View> for Sees {
 /// The publisher shows a session the list, and the session learns it.
 pub(crate) struct Notes;
 
-impl Split<View> for Notes {
+impl Split<PublishedView> for Notes {
     ghost left = { λ v. v };
 
     ghost right = { λ v. v };
 }
 
-impl Join<View> for Notes {
+impl Join<PublishedView> for Notes {
     ghost use Rattle.br_keeper.specs.Keeps.{stranger};
 
     ghost both = { λ v w. w };
@@ -125,8 +125,8 @@ impl Join<View> for Notes {
     ghost spent = { stranger };
 }
 
-pub(crate) type HistoryWriter = Writer<Published, Added, View, OneList>;
+pub(crate) type HistoryWriter = Writer<Published, Added, PublishedView, OneList>;
 
-pub(crate) type HistoryReader = Reader<Published, View, OneList>;
+pub(crate) type HistoryReader = Reader<Published, PublishedView, OneList>;
 
-pub(crate) type HistoryReading = Reading<Published, View, OneList>;
+pub(crate) type HistoryReading = Reading<Published, PublishedView, OneList>;

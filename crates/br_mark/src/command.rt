@@ -86,6 +86,7 @@ pub fn trimmed(text: &[u8]) -> &[u8]
 fn blank_in(text: &[u8]) -> Option<usize>
     ensures { result ≡ position is_blank text.now }
 {
+    // The clause of the kit, in the words of the model.
     text.find_byteset(BLANKS)
 }
 

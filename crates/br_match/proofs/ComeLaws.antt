@@ -14,7 +14,7 @@ use Rattle.br_model.specs.Bootstrap.{Group}
 use Rattle.br_model.specs.Meaning.{Piece, PieceFault, Hit, HasHit, IsHit, bound_of, is_covered, groups_on, just_groups, volumes_of, hits_in, hits_among, hits_on, hits_on_each, hits_of, meaning, pieces_of, blocks_for, first_hitting}
 use Rattle.br_model.proofs.AnswerLaws.{bind_ok, chosen, ok_is, refuse_ok, refused_as_ok, some_mapped, some_or_ok}
 use Rattle.br_model.proofs.ListLaws.{first_in, first_or_later, from_image, from_joined, later_in, none_in, not_empty_is_long}
-use Rattle.br_model.proofs.VolumeLaws.{header_has_16, laid_block, walk_is_exact_lem}
+use Rattle.br_model.proofs.VolumeLaws.{header_has_16, laid_block, walk_is_exact_lem, and_false}
 use Rattle.br_model.proofs.PieceLaws.{piece_of}
 use Rattle.br_model.proofs.FoundLaws.{hit_in_block}
 use Rattle.br_model.proofs.PlanVolumeLaws.{uncovered_has_no_hits}
@@ -98,10 +98,6 @@ record IsPassed (numbered : List (ℕ × Group)) (bytes : List ℕ) (address : �
   whole : is_covered (just_groups numbered) address ≡ true → head.size ≤ length (drop address bytes)
   block : laid_block address (drop address bytes) head ≡ s.0
   next : address + head.size ≡ s.1
-
-and_false : (a b : Bool) → (a && b) ≡ false → a ≡ true → b ≡ false
-and_false true b e p = e
-and_false false b e p = absurd cc
 
 next_is_passed : (numbered : List (ℕ × Group)) (bytes : List ℕ) (address : ℕ) (s : LaidBlock × ℕ)
     → next_block bytes (bound_of (just_groups numbered)) (is_covered (just_groups numbered)) address ≡ Ok (Some s) → IsPassed numbered bytes address s

@@ -15,7 +15,7 @@ use Rattle.br_model.specs.Meaning.{Piece, PieceFault, Hit, last_address, bound_o
 use Rattle.br_model.proofs.AnswerLaws.{bind_ok, ok_is, err_is, chosen}
 use Rattle.br_model.proofs.ListLaws.{long_is_not_empty}
 use Rattle.br_model.proofs.SpanLaws.{read_header_alone, read_header_more, read_header_within}
-use Rattle.br_model.proofs.VolumeLaws.{header_reads, laid_block}
+use Rattle.br_model.proofs.VolumeLaws.{header_reads, laid_block, and_false}
 use Rattle.br_model.proofs.PlanVolumeLaws.{uncovered_has_no_hits}
 use Rattle.br_volume.specs.Drive.{bytes_from, bytes_shown}
 use Rattle.br_volume.proofs.DriveLaws.{shown_end, shown_block, not_shown}
@@ -154,10 +154,6 @@ record IsBlockAt (piece : Piece) (address : ℕ) (left : List ℕ) : Type 0 wher
   head : Header
   read : read_header left ≡ Ok head
   whole : is_covered (just_groups piece.groups) address ≡ true → head.size ≤ length left
-
-and_false : (a b : Bool) → (a && b) ≡ false → a ≡ true → b ≡ false
-and_false true b e p = e
-and_false false b e p = absurd cc
 
 -- a step that is not refused
 block_of_step : (volumes : List Volume) (piece : Piece) (address : ℕ) (bytes : List ℕ) (s : Option (List Hit × ℕ)) → is_above (bound_of (just_groups piece.groups)) address ≡ false

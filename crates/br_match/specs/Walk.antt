@@ -147,13 +147,7 @@ BlockGiven piece address next (Ok (Some batch)) volumes = step_on volumes piece 
 BlockGiven piece address next (Ok None) volumes = step_on volumes piece address ≡ Ok None
 BlockGiven piece address next (Err e) volumes = IsRefusal (cause e) (step_on volumes piece address)
 
--- over the volumes that a drive may be taken to show: the walk returns the hits of its next block,
--- or is at its end
-abbrev pub GivesBlock : {D : Type 0} → (D → Option (List Volume)) → D → D → Piece → ℕ → ℕ → Result (Option Batch) code.PieceFault → Type 0
-GivesBlock shows earlier later piece address next result =
-    AfterWalk (shows earlier) (shows later) piece address (BlockGiven piece address next result)
-
--- a walk reaches the address in this number of steps
+-- a walk comes to the address by this number of steps
 abbrev pub ComesIn : ℕ → List Volume → Piece → ℕ → Type 0
 ComesIn zero volumes piece address = address ≡ 0
 ComesIn (suc n) volumes piece address =

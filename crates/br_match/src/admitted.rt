@@ -1,9 +1,9 @@
-ghost use Rattle.std.specs.Prelude.{◌≡◌, ◌≤◌, ◌<◌, ◌^◌, ℕ, false, IfOk, IsPermutation, length};
+ghost use Rattle.std.specs.Prelude.{◌≡◌, ◌≤◌, ◌<◌, ◌^◌, ℕ, false, IfOk, length};
 ghost use Rattle.std.specs.List.Sorted.{IsNonDecreasingBy, IsPartitionPoint};
 ghost use Rattle.br_model.specs.Bootstrap.{admits};
 ghost use Rattle.br_match.specs.Groups.{IsRising};
 
-use br_bsr::Range;
+use br_bsr::{Range, by_low};
 use std::alloc::{AllocError, Global};
 use std::marker::Model;
 
@@ -24,16 +24,6 @@ impl Model for Admitted {
     ghost view = { λ a. a.ranges.items };
 
     ghost invariant = { λ a. IsRising a.ranges.items };
-}
-
-/// Returns the ranges in order of their low ends.
-fn by_low(alloc: Global, ranges: &[Range]) -> Result<Vec<Range>, AllocError>
-    ensures rising { IfOk result (λ v. IsNonDecreasingBy (λ r. r.low) v.items) }
-    ensures same { IfOk result (λ v. IsPermutation ranges.now v.items) }
-{
-    let mut sorted = Vec::from_slice(alloc, ranges)?;
-    sorted.sort_by_key(|range| range.low)?;
-    Ok(sorted)
 }
 
 /// Returns the ranges, each of them extended to the greatest high end so far.

@@ -10,7 +10,7 @@ use std::alloc::AllocError;
 use thiserror::Error;
 
 /// The reason why a volume can't be searched.
-#[derive(Clone, Copy, Debug, PartialEq, Eq, Error)]
+#[derive(Clone, Copy, Debug, Error)]
 pub enum PieceCause {
     #[error("not a block: bytes 12 to 15 of its header are neither BB01 nor BB02")]
     BadId,

@@ -19,7 +19,7 @@ pub use br_data::Spot;
 pub use fault::{PieceCause, PieceFault};
 pub use hit::{Batch, Found, Hit};
 pub use matching::match_piece;
-pub use walk::Walk;
+pub use walk::{Walk, bound_for};
 
 /// States that a hit in a block that a walk of a bootstrap comes to is one that the walk reaches,
 /// whatever follows the block.

@@ -5,7 +5,7 @@ ghost use Rattle.br_model.specs.Meaning.{bound_of, is_covered, just_groups};
 ghost use Rattle.br_model.specs.Volume.{is_above};
 ghost use Rattle.br_volume.specs.Drive.{OnlyGrows, IsSized};
 ghost use Rattle.br_match.specs.Fault.{FailsWithDrive, IsAt, cause_number, fault_number, cause, named_address, refusal};
-ghost use Rattle.br_match.specs.Walk.{AfterWalk, GivesBlock, GoesOn, HeadAnswers, IsRefusedFor, PassesBlock, ReadsOver, TakesStep, unknown};
+ghost use Rattle.br_match.specs.Walk.{AfterWalk, GoesOn, HeadAnswers, IsRefusedFor, PassesBlock, ReadsOver, TakesStep, unknown};
 ghost use Rattle.br_volume.specs.Fault as drive;
 ghost use Rattle.br_volume.specs.declared.fault.DriveFault.TheVariants.{Fault};
 ghost use Rattle.br_match.specs.declared.walk.Step.TheVariants.{End, Passed};
@@ -107,7 +107,7 @@ fn head_at<D: Drive>(
 /// Returns the greatest address at which one of the groups asks for records; none if one asks at
 /// every address.
 #[tactic(auto, unfolding(br_model::specs::Meaning::bound_of))]
-fn bound_for(groups: &[(u32, Group)]) -> Option<u64>
+pub fn bound_for(groups: &[(u32, Group)]) -> Option<u64>
     ensures { result ≡ bound_of (just_groups groups.now) }
 {
     let mut bound = 0;
@@ -145,7 +145,7 @@ pub struct Walk<'p> {
 }
 
 impl<'p> Walk<'p> {
-    ghost use Rattle.br_match.specs.Seen.{piece_of, address_of};
+    ghost use Rattle.br_match.specs.Seen.{GivesBlock, piece_of, address_of};
 
     /// Returns a walk before the first block of the piece's volume.
     ///
@@ -292,7 +292,7 @@ impl<'p> Walk<'p> {
         drive: &mut D,
         buf: &mut Vec<u8>,
     ) -> Result<Option<Batch>, PieceFault>
-        ensures hits { GivesBlock D.shows drive.old drive.new (piece_of self.old) (address_of self.old) (address_of self.new) result }
+        ensures hits { GivesBlock (D.shows drive.old) (D.shows drive.new) self.old self.new result }
         ensures of { piece_of self.new ≡ piece_of self.old }
         ensures nearer { IfOk result (λ batch. IfSome batch (λ _. GoesOn (address_of self.old) (address_of self.new))) }
         ensures ended { result ≡ Ok None → address_of self.new ≡ address_of self.old }

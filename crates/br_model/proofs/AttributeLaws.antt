@@ -171,7 +171,7 @@ unfolding read_numbers
 numbers_read [] h = refl
 numbers_read (n ∷ ns) h = rw (numbers_read_back_lem n h.0, numbers_read ns h.1) refl
 
-stat_reads : (s : Stat) → AllByRecursion (λ z. is_64_bits z ≡ true) (stat_numbers s) → read_stat (write_stat s) ≡ Ok s
+pub stat_reads : (s : Stat) → AllByRecursion (λ z. is_64_bits z ≡ true) (stat_numbers s) → read_stat (write_stat s) ≡ Ok s
 unfolding read_stat write_stat stat_from
 stat_reads s h =
     let ws : words (join_with_byte 32 (map write_number (stat_numbers s))) ≡ map write_number (stat_numbers s) =

@@ -90,10 +90,6 @@ no_cut index front o given f w refused begins_cut =
     ap (λ (fs : List Fragment). join_from None fs) (append_assoc front (f ∷ []) more) ∙ w.walked (f ∷ more) ∙ ap (λ x. x >>= λ records. Ok (given ++ records)) r.1 in
     not_both (join_from None ((front ++ f ∷ []) ++ more)) begins_cut.1 r.0 joined other
 
-is_true : (b : Bool) → not b ≡ true → b ≡ false
-is_true true e = absurd cc
-is_true false e = refl
-
 -- the number of a refused fragment
 fault_number : (index : ℕ) (front : List Fragment) (o : Option Begun) (given : List Record) (f : Fragment) (n : ℕ) → HasWalked index front o given → IsFragmentFor index f
     → with_fragment o f ≡ Err n → IsFaultNumber index front f n

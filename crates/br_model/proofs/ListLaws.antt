@@ -1,12 +1,12 @@
 -- Elements of lists: which lists have them, what holds of each of them, and where they are.
 use Rattle.std.proofs.Common.{◌≡◌, ℕ, zero, suc, ◌+◌, ◌≤◌, Bool, true, false, not, ◌&&◌, cond, List, [], length, ◌<◌, ◌∷◌, ◌++◌, map, filter, Option, Some, None, refl, sym, ap, subst, ◌∙◌, inl, inr, ◌⊎◌, arith}
 use Rattle.std.proofs.Math.Nat.{zero-add}
-use Rattle.std.proofs.lemmas.Bool.{eqb-true, ne_eqb, and_parts, and_from, or_parts, or_from, or_left, or_right, or_cases, both_ways}
+use Rattle.std.proofs.lemmas.Bool.{eqb-true, ltb-false, ltb-true, ne_eqb, and_parts, and_from, or_parts, or_from, or_left, or_right, or_cases, both_ways}
 use Rattle.std.proofs.lemmas.List.{nil_from_length}
 use Rattle.std.proofs.lemmas.List.Elements.{Contains-append_left, Contains-append_right, Contains-append_cases}
 use Rattle.std.proofs.lemmas.Slice.Eq.{bytes_eq-Decides}
-use Rattle.std.specs.Prelude.{bytes_eq, Contains, slice_get, flat_map, filter_map, fold, max, option_to_list}
-use Rattle.std.specs.List.{AllByRecursion, AllZip, list_any, list_all, enumerate_from, cons_option, last_or}
+use Rattle.std.specs.Prelude.{bytes_eq, Contains, nat_lt, position, slice_get, flat_map, filter_map, fold, max, option_to_list}
+use Rattle.std.specs.List.{AllByRecursion, AllZip, list_any, list_all, enumerate_from, cons_option, last_or, position_or_len}
 use Rattle.br_model.specs.Text.{is_empty}
 use Rattle.br_model.specs.Order.{without_repeats}
 
@@ -405,3 +405,35 @@ all_numbered P n (x ∷ xs) h = (h.0, all_numbered P (n + 1) xs h.1)
 pub at_least : {X : Type 0} (value : X → ℕ) (n : ℕ) (xs : List X) → n ≤ fold (λ m x. max m (value x)) n xs
 at_least value n [] = omega arith
 at_least value n (x ∷ xs) = let h = at_least value (max n (value x)) xs in omega (arith, h)
+
+-- ---- the place of the first that passes
+
+module _ {X : Type 0} (p : X → Bool) where
+  -- the first that passes is at the place
+  pub found_at : (xs : List X) (i : ℕ) → position p xs ≡ Some i → (position_or_len p xs ≡ i) × (i < length xs)
+  found_at xs i h =
+      elim (nat_lt (position_or_len p xs) (length xs)) as (λ b. nat_lt (position_or_len p xs) (length xs) ≡ b → cond b (Some (position_or_len p xs)) None ≡ Some i
+      → (position_or_len p xs ≡ i) × (i < length xs)) [
+        | true ↦ λ is some. let e : position_or_len p xs ≡ i = cc in (e, rw e at (ltb-true (position_or_len p xs) (length xs) is))
+        | false ↦ λ is some. absurd cc
+      ] refl h
+
+  -- or none passes
+  pub not_found : (xs : List X) → position p xs ≡ None → length xs ≤ position_or_len p xs
+  not_found xs h =
+      elim (nat_lt (position_or_len p xs) (length xs)) as (λ b. nat_lt (position_or_len p xs) (length xs) ≡ b → cond b (Some (position_or_len p xs)) None ≡ None
+      → length xs ≤ position_or_len p xs)
+      [ true ↦ λ is some. absurd cc | false ↦ λ is none. ltb-false (position_or_len p xs) (length xs) is ] refl h
+
+-- the first that passes is in front, or after the first element
+pub at_front : (b : Bool) (rest : ℕ) → cond (not b) (1 + rest) 0 ≡ 0 → b ≡ true
+at_front true rest h = refl
+at_front false rest h = absurd (omega arith)
+
+pub behind : (b : Bool) (rest i : ℕ) → cond (not b) (1 + rest) 0 ≡ suc i → (b ≡ false) × (rest ≡ i)
+behind true rest i h = absurd (omega arith)
+behind false rest i h = (refl, omega arith)
+
+pub behind_all : (b : Bool) (rest n : ℕ) → suc n ≤ cond (not b) (1 + rest) 0 → (b ≡ false) × (n ≤ rest)
+behind_all true rest n h = absurd (omega arith)
+behind_all false rest n h = (refl, omega arith)

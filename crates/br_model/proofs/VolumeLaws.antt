@@ -60,7 +60,7 @@ header_has_16 bytes h e =
     let r = header_reads bytes h e in
     (r.lettered, omega (arith, r.size_from, at_least_16 (session_of bytes)))
 
-and_false : (a b : Bool) → (a && b) ≡ false → a ≡ true → b ≡ false
+pub and_false : (a b : Bool) → (a && b) ≡ false → a ≡ true → b ≡ false
 and_false true b e p = e
 and_false false b e p = absurd cc
 

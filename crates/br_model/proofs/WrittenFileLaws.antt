@@ -86,7 +86,7 @@ saved_can_be_written index f from to is =
 -- ---- how long records are
 
 -- a path has at most 4096 bytes
-path_is_short : (path : List ℕ) → is_path path ≡ true → length path ≤ 4096
+pub path_is_short : (path : List ℕ) → is_path path ≡ true → length path ≤ 4096
 unfolding is_path
 path_is_short path e = leb-true (length path) 4096 (and_parts _ _ (and_parts _ _ (and_parts _ _ e).0).0).1
 

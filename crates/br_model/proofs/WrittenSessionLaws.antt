@@ -26,7 +26,7 @@ use Rattle.br_model.proofs.ListLaws.{all_weaker}
 -- ---- the blocks
 
 -- each of the parts is within the limit
-parts_are : (limit : ℕ) (parts : List (List Fragment)) → AreClosed limit parts → AllByRecursion (IsPart limit) parts
+pub parts_are : (limit : ℕ) (parts : List (List Fragment)) → AreClosed limit parts → AllByRecursion (IsPart limit) parts
 parts_are limit [] closed = tt
 parts_are limit (part ∷ []) closed = (closed, tt)
 parts_are limit (part ∷ next ∷ more) closed = (closed.0, parts_are limit (next ∷ more) closed.2)
@@ -36,7 +36,7 @@ abbrev all_of : List (List Fragment) → List Fragment
 all_of parts = flat_map (λ (part : List Fragment). part) parts
 
 -- the blocks that are written of parts are whole
-blocks_are_whole : (key : SessionKey) (limit n : ℕ) (parts : List (List Fragment)) → IsKey key → limit ≤ 64512 → AllByRecursion (IsPart limit) parts
+pub blocks_are_whole : (key : SessionKey) (limit n : ℕ) (parts : List (List Fragment)) → IsKey key → limit ≤ 64512 → AllByRecursion (IsPart limit) parts
     → AllByRecursion IsWholeBlock (map (written_block key) (enumerate_from n parts))
 blocks_are_whole key limit n [] is to are = tt
 blocks_are_whole key limit n (part ∷ parts) is to are = (
@@ -70,8 +70,8 @@ visit_or_none P v more none some = go (is_empty v.blocks) refl
     go true e = none (nil_from_length v.blocks (eqb-true (length v.blocks) 0 e))
     go false e = let ne = eqb-false (length v.blocks) 0 e in some (omega (arith, ne))
 
--- visits have whole blocks if all blocks are whole
-visits_are_whole : (places : List Place) (blocks : List (List ℕ)) → AllByRecursion IsWholeBlock blocks → AllByRecursion IsWholeVisit (visits places blocks)
+-- visits have whole blocks where all blocks are whole
+pub visits_are_whole : (places : List Place) (blocks : List (List ℕ)) → AllByRecursion IsWholeBlock blocks → AllByRecursion IsWholeVisit (visits places blocks)
 unfolding visits
 visits_are_whole [] blocks whole = tt
 visits_are_whole (p ∷ []) blocks whole =

@@ -12,6 +12,7 @@ use Rattle.br_model.proofs.ListLaws.{all_weaker, of_each, to_each, all_numbered,
 use Rattle.br_model.proofs.PairLaws.{EachPair, pairs_filter}
 use Rattle.br_model.proofs.PieceLaws.{is_on, on_from, piece_of}
 use Rattle.br_piece.specs.Piece.{first_piece, with_one_more, with_more_at, put_at, place_among}
+use Rattle.std.proofs.lemmas.Bool.{not-true}
 
 -- ---- volumes
 
@@ -67,10 +68,6 @@ without_repeats_more (x ∷ xs) v = ap (λ ys. x ∷ filter (λ y. not (bytes_eq
         ap (λ ys. x ∷ ys) (subst (λ u. filter (λ y. not (bytes_eq x y)) (with_volume rest u) ≡ filter (λ y. not (bytes_eq x y)) rest) same (filter_with_same x rest))
     go false e = ap (λ ys. x ∷ ys) (filter_with_other x v rest e)
 
-apart_when_kept : (b : Bool) → not b ≡ true → b ≡ false
-apart_when_kept true e = absurd cc
-apart_when_kept false e = refl
-
 abbrev Apart : List ℕ → List ℕ → Type 0
 Apart v w = bytes_eq v w ≡ false
 
@@ -78,7 +75,7 @@ no_repeats : (xs : List (List ℕ)) → EachPair Apart (without_repeats xs)
 unfolding without_repeats
 no_repeats [] = tt
 no_repeats (x ∷ xs) =
-    (all_weaker (λ y. not (bytes_eq x y) ≡ true) (Apart x) (λ y e. apart_when_kept (bytes_eq x y) e) (filter (λ y. not (bytes_eq x y)) (without_repeats xs)) (kept_pass (λ y. not (bytes_eq x y)) (without_repeats xs)), pairs_filter Apart (λ y. not (bytes_eq x y)) (without_repeats xs) (no_repeats xs))
+    (all_weaker (λ y. not (bytes_eq x y) ≡ true) (Apart x) (λ y e. not-true (bytes_eq x y) e) (filter (λ y. not (bytes_eq x y)) (without_repeats xs)) (kept_pass (λ y. not (bytes_eq x y)) (without_repeats xs)), pairs_filter Apart (λ y. not (bytes_eq x y)) (without_repeats xs) (no_repeats xs))
 
 -- ---- the groups on a volume
 

@@ -1,30 +1,22 @@
-//! Counts the files that a group gets.
-ghost use Rattle.std.specs.Prelude.{◌≡◌, ◌+◌, IfOk, IsPermutation, count_by};
+//! How many files a group gets.
+ghost use Rattle.std.specs.Prelude.{◌≡◌, ◌+◌, IfOk, count_by};
 ghost use Rattle.std.specs.List.Sorted.{IsNonDecreasingBy};
 ghost use Rattle.br_piece.specs.FileCounts.{got, got_in, is_got_by};
 ghost use Rattle.br_piece.specs.Missing.{admits_session};
 ghost use Rattle.br_piece.specs.NearRanges.{AreSorted, is_asked};
 
-use crate::lacking::{admits, asks_for};
+use crate::lacking::{admits_session, asks_for};
 use crate::near_ranges::near;
-use br_bsr::{Group, Range};
-use br_types::{FileKey, SessionKey};
+use br_bsr::{Group, Range, by_low};
+use br_types::FileKey;
 use std::alloc::{AllocError, Global};
-
-/// Returns if the group admits the number and the time of the session.
-fn admits_key(group: &Group, session: SessionKey) -> bool
-    ensures { result ≡ admits_session group.now session }
-{
-    admits(&group.session_ids, u64::from(session.id))
-        && admits(&group.session_times, u64::from(session.time))
-}
 
 /// Returns the number of files of the sessions that the group admits.
 fn count_all(keys: &[FileKey], group: &Group) -> usize
     ensures { result ≡ count_by (λ k. admits_session group.now k.session) keys.now }
 {
     keys.iter()
-        .filter(|key| admits_key(group, key.session))
+        .filter(|key| admits_session(group, key.session))
         .count()
 }
 
@@ -63,17 +55,7 @@ fn count_from(keys: &[FileKey], group: &Group, next: u128, range: Range) -> usiz
     }
 }
 
-/// Returns the ranges in order of their low ends.
-fn by_low(alloc: Global, ranges: &[Range]) -> Result<Vec<Range>, AllocError>
-    ensures rising { IfOk result (λ v. IsNonDecreasingBy (λ r. r.low) v.items) }
-    ensures same { IfOk result (λ v. IsPermutation ranges.now v.items) }
-{
-    let mut sorted = Vec::from_slice(alloc, ranges)?;
-    sorted.sort_by_key(|range| range.low)?;
-    Ok(sorted)
-}
-
-/// Returns the successor of a number.
+/// Returns the number after a number.
 fn after(number: u64) -> u128
     ensures { result ≡ number + 1 }
 {

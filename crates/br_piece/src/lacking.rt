@@ -1,44 +1,34 @@
 ghost use Rattle.std.specs.Prelude.{◌≡◌, ◌++◌, IfOk, OnOk, map};
-ghost use Rattle.std.specs.Int.{is_in_range};
-ghost use Rattle.std.specs.List.{list_any};
-ghost use Rattle.br_model.specs.Bootstrap.{admits as admits_number};
 ghost use Rattle.br_piece.specs.Missing as model;
 ghost use Rattle.br_piece.specs.NearRanges.{AreSorted, asked_indexes, is_asked};
 
 use crate::gaps::gaps_of;
 use crate::near_ranges::near;
-use br_bsr::{Group, Range};
-use br_types::FileKey;
+use br_bsr::{Group, Range, admits_number};
+use br_types::{FileKey, SessionKey};
 use std::alloc::{AllocError, Global};
 
-/// A run of indexes that a group of a bootstrap asks for and that no file has.
-#[derive(Clone, Copy, Debug, PartialEq, Eq)]
+/// A run of indexes that a group of a bootstrap asks for, and of which there is no file.
+#[derive(Clone, Copy, Debug)]
 pub struct Gap {
     /// The place of the group in its bootstrap, counted from 0.
     pub group: usize,
     pub indexes: Range,
 }
 
-fn contains_any(ranges: &[Range], number: u64) -> bool
-    ensures { result ≡ list_any (λ r. is_in_range r.low r.high number) ranges.now }
+/// Returns if the group admits the number and the time of the session.
+pub fn admits_session(group: &Group, session: SessionKey) -> bool
+    ensures { result ≡ model.admits_session group.now session }
 {
-    ranges.iter().any(|range| range.contains(number))
-}
-
-/// Returns if the ranges admit the number: one of them contains it, or there are none.
-pub(crate) fn admits(ranges: &[Range], number: u64) -> bool
-    ensures { result ≡ admits_number ranges.now number }
-{
-    ranges.is_empty() || contains_any(ranges, number)
+    admits_number(&group.session_ids, u64::from(session.id))
+        && admits_number(&group.session_times, u64::from(session.time))
 }
 
 /// Returns if the group asks for the file by the range.
 pub(crate) fn asks_for(group: &Group, range: Range, key: FileKey) -> bool
     ensures { result ≡ is_asked group.now range key }
 {
-    admits(&group.session_ids, u64::from(key.session.id))
-        && admits(&group.session_times, u64::from(key.session.time))
-        && range.contains(u64::from(key.index.get()))
+    admits_session(group, key.session) && range.contains(u64::from(key.index.get()))
 }
 
 /// Returns the indexes of the files that the group asks for by the range.

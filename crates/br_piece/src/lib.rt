@@ -16,7 +16,7 @@ mod piece;
 mod splitting;
 
 pub use file_counts::got_of;
-pub use lacking::{Gap, missing};
+pub use lacking::{Gap, admits_session, missing};
 pub use missing_lines::report;
 pub use piece::Piece;
 pub use splitting::split;

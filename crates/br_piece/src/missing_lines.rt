@@ -1,6 +1,5 @@
 //! The lines that report missing files.
 ghost use Rattle.std.specs.Prelude.{◌≡◌, ◌++◌, flat_map, IfOk, OnOk};
-ghost use Rattle.br_model.specs.Bootstrap.{range_text};
 ghost use Rattle.br_piece.specs.MissingLines as model;
 ghost use Rattle.br_piece.specs.MissingLines.{count_at, count_line, count_lines, count_text, gap_line, gap_text};
 ghost use Rattle.br_piece.specs.MissingLines.{line_of, next_text, numbers_text, ranges_text, sessions_text};
@@ -8,24 +7,12 @@ ghost use Rattle.br_piece.specs.NearRanges.{AreSorted};
 
 use crate::file_counts::got_of;
 use crate::lacking::{Gap, missing_of};
-use br_bsr::{Group, Range};
+use br_bsr::{Group, Range, push_range};
 use br_types::{FileKey, push_escaped, push_number, push_wide};
 use std::alloc::{AllocError, Global};
 
 /// The greatest index that a file can have.
 const GREATEST_INDEX: u64 = 2_147_483_647;
-
-/// Appends one number, or two with a dash between them.
-fn push_range(text: &mut Vec<u8>, range: Range) -> Result<(), AllocError>
-    ensures { OnOk result (text.new.items ≡ text.old.items ++ range_text range) }
-{
-    push_number(text, range.low)?;
-    if range.low != range.high {
-        text.push(b'-')?;
-        push_number(text, range.high)?;
-    }
-    Ok(())
-}
 
 /// Appends ranges, each after a comma.
 fn push_next(text: &mut Vec<u8>, ranges: &[Range]) -> Result<(), AllocError>

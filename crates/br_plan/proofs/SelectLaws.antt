@@ -1,6 +1,6 @@
 -- The entries that one test selects are the model's selection.
 use Rattle.std.proofs.Common.{◌≡◌, ℕ, Bool, true, false, ◌&&◌, ◌||◌, cond, eqb, List, [], ◌∷◌, ◌++◌, length, map, filter, Option, Some, None, ℤ, pos, negsuc, refl, sym, ap, subst, ◌∙◌, append_assoc, inl, inr}
-use Rattle.std.proofs.lemmas.Bool.{and_parts, and_from, or_cases, or_left, both_ways, eqb-true}
+use Rattle.std.proofs.lemmas.Bool.{and_parts, and_from, or_cases, or_left, both_ways, eqb-true, or_right}
 use Rattle.std.proofs.lemmas.List.{nil_from_length}
 use Rattle.std.proofs.lemmas.Slice.Eq.{bytes_eq-Decides}
 use Rattle.std.specs.Prelude.{Contains, bytes_eq, find, flat_map, option_to_list, nat_lt}
@@ -32,10 +32,6 @@ both_imply : (a b : Bool) → (a ≡ true → b ≡ true) → (b ≡ true → a 
 both_imply true b f g = sym (f refl)
 both_imply false true f g = g refl
 both_imply false false f g = refl
-
-or_behind : (a b : Bool) → b ≡ true → (a || b) ≡ true
-or_behind true b e = refl
-or_behind false b e = e
 
 -- what is found is there and passes the test
 pub found_passes : {X : Type 0} (p : X → Bool) (xs : List X) (x : X) → find p xs ≡ Some x → Contains xs x × (p x ≡ true)
@@ -231,7 +227,7 @@ selection_is jobs marks history =
               let found = found_passes (is_linked d.0) view r.0 (from_option (find (is_linked d.0) view) r.0 d.2) in
               let same : r.0 ≡ e = one_path jobs r.0 e found.0 inside r.2 in
               let links : links_to (file_of e) d.0 ≡ true = sym (linked_is d.0 e) ∙ ap (is_linked d.0) (sym same) ∙ found.1 in
-              or_behind (is_marked e) (list_any (λ (g : Entry). is_marked g && links_to (file_of e) g) view)
+              or_right (is_marked e) (list_any (λ (g : Entry). is_marked g && links_to (file_of e) g) view)
               (some_passes (λ (g : Entry). is_marked g && links_to (file_of e) g) view d.0 kept.0 (and_from (is_marked d.0) (links_to (file_of e) d.0) kept.1 links))
         ]
 

@@ -14,13 +14,9 @@ use Rattle.std.specs.declared.cmp.Ordering.TheVariants.{Less, Equal, Greater}
 use Rattle.br_model.proofs.OrderLaws.{rank_cmp, same_rank}
 use Rattle.br_plan.specs.Selected.{FileOf, file_cmp, has_file, AddsLink}
 use Rattle.br_plan.proofs.RangeLaws.{eqb_turned}
+use Rattle.br_choose.proofs.ChoiceLaws.{is_equal}
 
 -- ---- paths
-
-is_equal : (o : Ordering) → is_eq o ≡ true → o ≡ Equal
-is_equal Less e = absurd cc
-is_equal Equal e = refl
-is_equal Greater e = absurd cc
 
 -- lists that compare alike are equal
 pub paths_tied : (p q : List ℕ) → is_eq (rank_cmp p q) ≡ bytes_eq p q

@@ -2,5 +2,6 @@ pub mod Fault
 pub mod Selected
 pub mod Parts
 pub mod Means
+pub mod Asked
 pub mod Moment
 pub mod RequestWords

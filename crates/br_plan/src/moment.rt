@@ -9,8 +9,8 @@ use jiff::civil::DateTime;
 use std::marker::Model;
 use thiserror::Error;
 
-/// A text that is not a moment.
-#[derive(Clone, Copy, Debug, PartialEq, Eq, Error)]
+/// A text that is no moment.
+#[derive(Clone, Copy, Debug, Error)]
 #[error("not a moment from 1970 on of the form YYYY-MM-DD HH:MM:SS")]
 pub struct BadMoment;
 

@@ -2,7 +2,7 @@ ghost use Rattle.std.specs.Prelude.{◌≡◌, map, IfOk, OnOk};
 ghost use Rattle.std.specs.FinMap as finite;
 ghost use Rattle.br_plan.specs.Selected.{key_of, named_pair};
 
-use crate::select::Shown;
+use br_tree::Shown;
 use br_types::{FileKey, Names, Path};
 use br_view::Entry;
 use std::alloc::{AllocError, Global};

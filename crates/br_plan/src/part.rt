@@ -3,8 +3,8 @@ ghost use Rattle.br_view.specs.Shown.{shown_pair};
 ghost use Rattle.br_plan.specs.Selected.{file_of};
 ghost use Rattle.br_plan.specs.Parts.{Rise, AreFiles, is_before, is_up_to, is_within};
 
-use crate::select::Shown;
 use br_session::Span;
+use br_tree::Shown;
 use br_types::{FileIndex, JobId};
 use std::alloc::{AllocError, Global};
 

@@ -7,16 +7,17 @@ ghost use Rattle.br_plan.specs.Means.{MeansSelection, IsViewOfChosen, plan_by, p
 ghost use Rattle.br_view.specs.Shown.{shown_pair};
 
 use crate::fault::PlanFault;
-use crate::group::groups_of;
+use crate::job_selection::JobSelection;
 use crate::naming::names_of;
 use crate::part::files_of;
+use crate::plan_group::groups_of;
 use crate::request::Request;
-use crate::select::{Shown, flags_of, selected};
+use crate::select::{flags_of, selected};
 use br_bsr::Bootstrap;
 use br_choose::choose;
 use br_history::{History, JobRows};
 use br_model::plan_means_selection;
-use br_tree::Tree;
+use br_tree::{Shown, Tree};
 use br_types::{Names, Path};
 use br_view::View;
 use std::alloc::{AllocError, Global};
@@ -108,32 +109,25 @@ impl Plan {
         plan_from(alloc, view.entries(), &flags, &jobs)
     }
 
-    /// Makes the plan for the marked paths of a tree, as `make` does for its marks, without
-    /// building a view: the tree shows that of the jobs that the request chooses.
+    /// Makes the plan for the marked paths of a tree, as `make` does for its marks, and builds no view: the tree shows that of the
+    /// chosen jobs.
     ///
     /// # Errors
     ///
     /// Those of `make`.
     pub fn for_marked(
         alloc: Global,
-        history: &History,
-        request: &Request,
+        asked: &JobSelection<'_>,
         tree: &Tree<'_>,
     ) -> Result<Plan, PlanFault>
-        requires { IsViewOfChosen history.now request.now tree.now.view }
-        ensures answers { Answers (λ plan. plan) cause result (model.plan_of history.now request.now tree.now.marked) }
-        ensures means { IfOk result (MeansSelection history.now request.now tree.now.marked) }
+        requires { IsViewOfChosen asked.now.history asked.now.request tree.now.view }
+        ensures answers { Answers (λ plan. plan) cause result (model.plan_of asked.now.history asked.now.request tree.now.marked) }
+        ensures means { IfOk result (MeansSelection asked.now.history asked.now.request tree.now.marked) }
     {
         plan_means_selection();
-        // The jobs are a history because of their type.
-        let _ = history.jobs();
-        let jobs = choose(
-            alloc,
-            history,
-            &request.client,
-            &request.fileset,
-            request.moment,
-        )?;
+        // The jobs are a history by their type.
+        let _ = asked.history().jobs();
+        let jobs = asked.jobs(alloc)?;
         plan_from(alloc, tree.entries(), tree.flags(), &jobs)
     }
 

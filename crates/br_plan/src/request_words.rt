@@ -11,7 +11,7 @@ use std::alloc::Global;
 use thiserror::Error;
 
 /// Why a request was refused.
-#[derive(Clone, Copy, Debug, PartialEq, Eq, Error)]
+#[derive(Clone, Copy, Debug, Error)]
 pub enum RequestFault {
     #[error("out of memory")]
     Memory,

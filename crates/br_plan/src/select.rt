@@ -1,14 +1,12 @@
-ghost use Rattle.std.specs.Prelude.{◌≡◌, ◌<◌, ◌+◌, ◌++◌, ◌∷◌, [], ◌||◌, if◌then◌else◌, length, drop, map, IfOk, OnOk};
+ghost use Rattle.std.specs.Prelude.{◌≡◌, ◌||◌, length, map, IfOk, OnOk};
 ghost use Rattle.br_view.specs.Shown.{shown_pair};
 ghost use Rattle.br_plan.specs.Selected.{has_path, ArePaths, has_file, AddsLink, AddsIf, AreLinked, kept_of, selected_by, flags_in};
 
+use br_tree::{Shown, flag_at, keep_if, pair_at};
 use br_types::{JobId, Path};
 use br_view::Entry;
 use std::alloc::{AllocError, Global};
 use std::collections::BTreeSet;
-
-/// A path with its newest copy.
-pub(crate) type Shown<'h> = (&'h Path, Entry);
 
 /// A file of a job, by its FileIndex as a hard link has it.
 type Linked = (JobId, u64);
@@ -56,23 +54,6 @@ pub(crate) fn flags_of(
     flags_by(alloc, entries, &paths)
 }
 
-/// Returns the entry at a place, with its path.
-fn shown_at<'h>(entries: &[Shown<'h>], place: usize) -> Shown<'h>
-    requires { place < length entries.now }
-    ensures { drop place entries.now ≡ result ∷ drop (place + 1) entries.now }
-{
-    let shown = &entries[place];
-    (shown.0, shown.1)
-}
-
-/// Returns the flag at a place.
-fn flag_at(flags: &[bool], place: usize) -> bool
-    requires { place < length flags.now }
-    ensures { drop place flags.now ≡ result ∷ drop (place + 1) flags.now }
-{
-    flags[place]
-}
-
 /// Notes the file of a job with the index of a link, if this is above 0.
 fn note_link(files: &mut BTreeSet<Linked>, job: JobId, link_index: i64) -> Result<(), AllocError>
     ensures { OnOk result (AddsLink files.old job link_index files.new) }
@@ -104,7 +85,7 @@ fn linked_files(
 {
     let mut files = BTreeSet::new(alloc);
     for place in 0..entries.len() {
-        let shown = shown_at(entries, place);
+        let shown = pair_at(entries, place);
         note_if(&mut files, shown.1, flag_at(flags, place))?;
     }
     Ok(files)
@@ -115,23 +96,6 @@ fn is_wanted(files: &BTreeSet<Linked>, entry: Entry, flag: bool) -> bool
     ensures { result ≡ (flag || has_file files.now (entry.job, entry.index)) }
 {
     flag || files.contains(&(entry.job, u64::from(entry.index.get())))
-}
-
-/// Keeps an entry if it is wanted.
-fn keep_if<'h>(
-    kept: &mut Vec<Shown<'h>>,
-    path: &'h Path,
-    entry: Entry,
-    is_wanted: bool,
-) -> Result<(), AllocError>
-    ensures { OnOk result (kept.new.items ≡ kept.old.items ++ (if is_wanted then (path.entry, entry) ∷ [] else [])) }
-{
-    if is_wanted {
-        if kept.push((path, entry)).is_err() {
-            return Err(AllocError);
-        }
-    }
-    Ok(())
 }
 
 /// Returns the entries that are flagged or whose file is in the set.
@@ -146,7 +110,7 @@ fn kept<'h>(
 {
     let mut kept = Vec::new(alloc);
     for place in 0..entries.len() {
-        let shown = shown_at(entries, place);
+        let shown = pair_at(entries, place);
         let wanted = is_wanted(files, shown.1, flag_at(flags, place));
         keep_if(&mut kept, shown.0, shown.1, wanted)?;
     }

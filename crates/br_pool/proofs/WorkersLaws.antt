@@ -11,6 +11,7 @@ use Rattle.br_pool.specs.Pool.{StandsTold}
 use Rattle.br_pool.specs.Workers.{Answer, EachHolds, AreAllAnswered, HasWorkedBy, HaveWorkedBy, count_in, number_at, numbers_of}
 use Rattle.br_pool.proofs.AnswerLaws.{each_so}
 use Rattle.br_pool.proofs.FlagLaws.{Stay, Same, fewer_or_same}
+use Rattle.std.proofs.lemmas.Bool.{or_right, or_left}
 
 all_append : {A : Type 0} (P : A → Type 0) (xs ys : List A) → AllByRecursion P xs → AllByRecursion P ys → AllByRecursion P (xs ++ ys)
 all_append P [] ys p q = q
@@ -33,14 +34,6 @@ times_map f x (y ∷ xs) some = parted (λ more. times_map f x xs more) (eqb y x
 numbers_append : (xs ys : List (ℕ × Answer)) → numbers_of (xs ++ ys) ≡ numbers_of xs ++ numbers_of ys
 numbers_append [] ys = refl
 numbers_append (x ∷ xs) ys = ap (λ l. x.0 ∷ l) (numbers_append xs ys)
-
-or_left : (a b : Bool) → a ≡ true → (a || b) ≡ true
-or_left true b e = refl
-or_left false b e = absurd cc
-
-or_right : (a b : Bool) → b ≡ true → (a || b) ≡ true
-or_right true b e = refl
-or_right false b e = e
 
 module _ {W : Type 0} (claims : TableId) (pieces : List Piece) (left : List ℕ) (is : W → W → Piece → Answer → Type 0) (shows : W → Option (List Volume)) (fails : W → ℕ) (out : W → Bool) (seat : W → Seated) (answers : W → List (ℕ × Answer)) where
   -- a worker before and after its run

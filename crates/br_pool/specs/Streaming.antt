@@ -1,5 +1,5 @@
--- What several drives give a joiner from some pieces, whatever happens to their volumes meanwhile.
-use Rattle.std.specs.Prelude.{◌≡◌, ℕ, List, Vec, Option, Result, Ok, Err, IfOk, OnOk}
+-- What many drives give a joiner of some pieces, whatever their volumes do meanwhile.
+use Rattle.std.specs.Prelude.{◌≡◌, ℕ, List, map, Vec, Option, Result, Ok, Err, IfOk, OnOk}
 use Rattle.std.specs.Global.{Global}
 use Rattle.std.specs.List.{AllZip}
 use Rattle.br_model.specs.Answer.{IsRefusal}
@@ -52,8 +52,12 @@ abbrev pub Streams : List Volume → List Piece → Hits → Hits → Result (Un
 Streams volumes pieces held new (Ok _) = (found : List Hit) × (hits_on_each volumes pieces ≡ Ok found) × (new ≡ with_hits held found)
 Streams volumes pieces held new (Err fault) = IsRefusal (cause fault) (hits_on_each volumes pieces) × (found : List Hit) × (new ≡ with_hits held found) × AllComeTo volumes pieces found
 
+-- what each drive shows before and after, if it tells its volumes
+abbrev pub told_by : {D : Type 0} → (D → Option (List Volume)) → List D → List D → List (Option (List Volume)) × List (Option (List Volume))
+told_by shows before after = (map shows before, map shows after)
+
 -- The same over all volumes that each of the drives may be taken to show. Each drive may fail, and
 -- memory may run out, at any time.
-abbrev pub StreamsOver : List (Option (List Volume)) → List (Option (List Volume)) → List Piece → Hits → Hits → Result (Unit {0}) PoolFault → Type 0
-StreamsOver before after pieces held new result =
-    (volumes : List Volume) → AllZip (StandsTold pieces volumes) before after → Streams volumes pieces held new result
+abbrev pub StreamsOver : List (Option (List Volume)) × List (Option (List Volume)) → List Piece → Hits → Hits → Result (Unit {0}) PoolFault → Type 0
+StreamsOver shown pieces held new result =
+    (volumes : List Volume) → AllZip (StandsTold pieces volumes) shown.0 shown.1 → Streams volumes pieces held new result

@@ -95,6 +95,7 @@ pub(crate) fn open_line(alloc: Global, room: usize) -> Result<(Line, CrewPass), 
     ensures pass { IfOk result (λ opened. IsPassOf opened.0 opened.1) }
     ensures first { IfOk result (λ opened. view opened.1 ≡ crew true 65536 [] []) }
 {
+    // The clauses of the kit, as facts about a crew.
     Line::ruled(alloc, room)
 }
 
@@ -106,6 +107,7 @@ pub(crate) fn pass_for_worker(line: &Line, pass: &mut CrewPass) -> CrewPass
     ensures left { view pass.new ≡ one_part_fewer (view pass.old) }
     ensures first { view result ≡ hired }
 {
+    // The clauses of the kit, as facts about a crew.
     line.another::<OnePart>(pass)
 }
 

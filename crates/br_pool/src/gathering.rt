@@ -10,8 +10,8 @@ use crate::round_course::Course;
 use br_join::Joiner;
 use std::sync::Wait;
 
-/// The result of one look at the queue.
-#[derive(Clone, Copy, PartialEq, Eq)]
+/// What became of one look at the queue.
+#[derive(Clone, Copy)]
 pub(crate) enum Look {
     /// The joiner took a batch.
     Taken,

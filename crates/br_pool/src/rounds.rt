@@ -6,7 +6,7 @@ ghost use Rattle.br_pool.specs.Workers.{HaveServed, count_in, outs};
 
 use crate::gate::Gate;
 use crate::slots::{has_empty, left_of};
-use crate::worker::{Answer, Reader, Round};
+use crate::worker::{PieceResult, Reader, Round};
 use crate::workers::{read_all, shares_for};
 use br_claim::Claims;
 use br_piece::Piece;
@@ -28,7 +28,7 @@ fn run_round<D: Drive + Send, G: Gate + Sync, R: Threads + Sync>(
     alloc: Global,
     task: &Task<'_, G>,
     readers: &mut Vec<Reader<D>>,
-    slots: &mut [Option<Answer>],
+    slots: &mut [Option<PieceResult>],
 ) -> Result<(), AllocError>
     requires many { length slots.old ≡ length task.now.pieces.now }
     requires few { length readers.old.items ≤ 16 }
@@ -67,7 +67,7 @@ fn has_drive<D: Drive>(readers: &[Reader<D>]) -> bool
 }
 
 /// Returns whether another round is to follow: a slot is empty, and a drive is not out.
-pub(crate) fn goes_on<D: Drive>(readers: &[Reader<D>], slots: &[Option<Answer>]) -> bool
+pub(crate) fn goes_on<D: Drive>(readers: &[Reader<D>], slots: &[Option<PieceResult>]) -> bool
     ensures { result ≡ is_turn readers.now slots.now }
 {
     has_empty(slots) && has_drive(readers)
@@ -79,7 +79,7 @@ pub(crate) fn run_rounds<D: Drive + Send, G: Gate + Sync, R: Threads + Sync>(
     alloc: Global,
     task: &Task<'_, G>,
     readers: &mut Vec<Reader<D>>,
-    slots: &mut [Option<Answer>],
+    slots: &mut [Option<PieceResult>],
 ) -> Result<(), AllocError>
     requires many { length slots.old ≡ length task.now.pieces.now }
     requires none { AllByRecursion (λ s. s ≡ None) slots.old }

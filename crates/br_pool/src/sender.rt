@@ -13,7 +13,7 @@ use crate::batch_queue::{CrewPass, Line, send};
 use crate::gate::Gate;
 use crate::round_course::Course;
 use crate::thread_memory::Supply;
-use crate::worker::{Answer, Reader, Round, Worker, is_failure, number_at};
+use crate::worker::{PieceResult, Reader, Round, Worker, is_failure, number_at};
 use br_claim::ClaimSeat;
 use br_match::{Batch, Found, PieceFault, Walk};
 use br_piece::Piece;
@@ -125,7 +125,7 @@ fn send_one<D: Drive, G: Gate, R: Wait>(
     number: u32,
     reader: &mut Reader<D>,
     pass: &mut CrewPass,
-) -> Answer
+) -> PieceResult
     requires able { reader.old.out ≡ false }
     requires pass { IsPassOf sending.now.line.now pass.old }
     requires part { 0 < (view pass.old).parts }
@@ -152,7 +152,7 @@ fn send_drawn<D: Drive, G: Gate, R: Wait>(
     sending: &SendRound<'_, G>,
     reader: &mut Reader<D>,
     seat: &mut ClaimSeat,
-    answers: &mut Vec<(u32, Answer)>,
+    answers: &mut Vec<(u32, PieceResult)>,
     pass: &mut CrewPass,
 )
     requires able { reader.old.out ≡ false }

@@ -3,12 +3,15 @@ ghost use Rattle.std.specs.List.{AllByRecursion, list_any};
 ghost use Rattle.br_pool.specs.Slots.{AllBelow, IsListed, empties, is_empty, is_memory, with_each};
 
 use crate::fault::PoolFault;
-use crate::worker::Answer;
+use crate::worker::PieceResult;
 use br_match::{Found, PieceFault};
 use std::alloc::{AllocError, Global};
 
 /// Returns `count` slots without an answer.
-pub(crate) fn empty_slots(alloc: Global, count: usize) -> Result<Vec<Option<Answer>>, AllocError>
+pub(crate) fn empty_slots(
+    alloc: Global,
+    count: usize,
+) -> Result<Vec<Option<PieceResult>>, AllocError>
     ensures many { IfOk result (λ slots. length slots.items ≡ count) }
     ensures none { IfOk result (λ slots. AllByRecursion (λ s. s ≡ None) slots.items) }
 {
@@ -20,7 +23,7 @@ pub(crate) fn empty_slots(alloc: Global, count: usize) -> Result<Vec<Option<Answ
 }
 
 /// Fills the slot of each number with its answer.
-pub(crate) fn fill(slots: &mut [Option<Answer>], answers: Vec<(u32, Answer)>)
+pub(crate) fn fill(slots: &mut [Option<PieceResult>], answers: Vec<(u32, PieceResult)>)
     requires { AllBelow (length slots.old) answers.items }
     ensures { slots.new ≡ with_each slots.old answers.items }
 {
@@ -30,7 +33,7 @@ pub(crate) fn fill(slots: &mut [Option<Answer>], answers: Vec<(u32, Answer)>)
 }
 
 /// Returns whether the slot has no answer.
-fn is_empty(slot: &Option<Answer>) -> bool
+fn is_empty(slot: &Option<PieceResult>) -> bool
     ensures { result ≡ is_empty slot.now }
 {
     match slot {
@@ -40,7 +43,7 @@ fn is_empty(slot: &Option<Answer>) -> bool
 }
 
 /// Returns whether some slot has no answer.
-pub(crate) fn has_empty(slots: &[Option<Answer>]) -> bool
+pub(crate) fn has_empty(slots: &[Option<PieceResult>]) -> bool
     ensures { result ≡ list_any is_empty slots.now }
 {
     slots.iter().any(is_empty)
@@ -57,7 +60,7 @@ fn note_if(left: &mut Vec<u32>, number: u32, wanted: bool) -> Result<(), AllocEr
 }
 
 /// Returns the numbers of the empty slots, in order.
-pub(crate) fn left_of(alloc: Global, slots: &[Option<Answer>]) -> Result<Vec<u32>, AllocError>
+pub(crate) fn left_of(alloc: Global, slots: &[Option<PieceResult>]) -> Result<Vec<u32>, AllocError>
     ensures { IfOk result (λ left. left.items ≡ empties 0 slots.now) }
 {
     let Ok(count) = u32::try_from(slots.len()) else {
@@ -72,7 +75,7 @@ pub(crate) fn left_of(alloc: Global, slots: &[Option<Answer>]) -> Result<Vec<u32
 }
 
 /// Returns whether memory ran out.
-fn is_memory(slot: &Option<Answer>) -> bool
+fn is_memory(slot: &Option<PieceResult>) -> bool
     ensures { result ≡ is_memory slot.now }
 {
     match slot {
@@ -82,7 +85,7 @@ fn is_memory(slot: &Option<Answer>) -> bool
 }
 
 /// Returns whether memory ran out for a piece.
-fn has_memory(slots: &[Option<Answer>]) -> bool
+fn has_memory(slots: &[Option<PieceResult>]) -> bool
     ensures { result ≡ list_any is_memory slots.now }
 {
     slots.iter().any(is_memory)
@@ -92,7 +95,7 @@ fn has_memory(slots: &[Option<Answer>]) -> bool
 /// left if a slot is empty, or else the first refusal.
 pub(crate) fn found_in_order(
     alloc: Global,
-    slots: Vec<Option<Answer>>,
+    slots: Vec<Option<PieceResult>>,
 ) -> Result<Vec<Found>, PoolFault>
     ensures { IsListed slots.items result }
 {

@@ -1,5 +1,5 @@
 //! Pieces whose hits a joiner takes block by block, while drives read: round by round.
-ghost use Rattle.std.specs.Prelude.{◌≡◌, ◌<◌, ◌≤◌, None, true, map, length, IfOk, IfErr, OnErr, OnOk};
+ghost use Rattle.std.specs.Prelude.{◌≡◌, ◌<◌, ◌≤◌, None, true, length, IfOk, IfErr, OnErr, OnOk};
 ghost use Rattle.std.specs.List.{AllByRecursion, list_any};
 ghost use Rattle.br_join.specs.Joining.{IsMadeFor, is_ready};
 ghost use Rattle.br_match.specs.Come.{AreOfBootstrap};
@@ -7,7 +7,7 @@ ghost use Rattle.br_pool.specs.Fault.{IsDecided, IsNoDriveLeft};
 ghost use Rattle.br_pool.specs.Pool.{AreDrives, OnlyIfAllFail, StayInPlace};
 ghost use Rattle.br_pool.specs.Rounds.{AreLeftAtEnd};
 ghost use Rattle.br_pool.specs.Slots.{is_empty, rounds_left};
-ghost use Rattle.br_pool.specs.Streaming.{AddsTo, FilledTo, ReadsRoundTo, StreamsOver};
+ghost use Rattle.br_pool.specs.Streaming.{AddsTo, FilledTo, ReadsRoundTo, StreamsOver, told_by};
 ghost use Rattle.br_pool.specs.Workers.{HaveServed, IsReady, count_in, outs};
 
 use crate::batch_queue::open_line;
@@ -19,8 +19,8 @@ use crate::rounds::goes_on;
 use crate::sender::SendRound;
 use crate::senders::{lists_for, send_all};
 use crate::slots::{empty_slots, found_in_order, left_of};
-use crate::worker::{Answer, Reader, Round};
-use crate::workers::{Share, into_workers, out_of_workers, shares_for};
+use crate::worker::{PieceResult, Reader, Round};
+use crate::workers::{WorkerShare, into_workers, out_of_workers, shares_for};
 use br_claim::{ClaimSeat, Claims};
 use br_join::Joiner;
 use br_piece::Piece;
@@ -59,8 +59,8 @@ fn read_to<D: Drive + Send, G: Gate + Sync, R: Threads + Wait + Sync>(
     rt: &R,
     task: &RoundTask<'_, G>,
     readers: &mut Vec<Reader<D>>,
-    shares: Vec<Share>,
-    into: &mut [Option<Answer>],
+    shares: Vec<WorkerShare>,
+    into: &mut [Option<PieceResult>],
     joiner: &mut Joiner,
 ) -> Result<Vec<ClaimSeat>, AllocError>
     requires few { task.now.round.now.claims.now.limit ≡ length task.now.round.now.left.now }
@@ -104,7 +104,7 @@ fn stream_round<D: Drive + Send, G: Gate + Sync, R: Threads + Wait + Sync>(
     alloc: Global,
     task: &Streaming<'_, G>,
     readers: &mut Vec<Reader<D>>,
-    slots: &mut [Option<Answer>],
+    slots: &mut [Option<PieceResult>],
     joiner: &mut Joiner,
 ) -> Result<(), AllocError>
     requires many { length slots.old ≡ length task.now.pieces.now }
@@ -150,7 +150,7 @@ fn stream_rounds<D: Drive + Send, G: Gate + Sync, R: Threads + Wait + Sync>(
     alloc: Global,
     task: &Streaming<'_, G>,
     readers: &mut Vec<Reader<D>>,
-    slots: &mut [Option<Answer>],
+    slots: &mut [Option<PieceResult>],
     joiner: &mut Joiner,
 ) -> Result<(), AllocError>
     requires many { length slots.old ≡ length task.now.pieces.now }
@@ -212,8 +212,7 @@ pub fn run_pool_streaming<D: Drive + Send, G: Gate + Sync, R: Threads + Wait + S
     requires split { AreOfBootstrap task.now.pieces.now }
     requires queue { 0 < task.now.room }
     requires made { IsMadeFor task.now.pieces.now joiner.old.pieces }
-    ensures hits { StreamsOver (map D.shows drives.old.items) (map D.shows drives.new.items) task.now.pieces.now
-        joiner.old.hits joiner.new.hits result }
+    ensures hits { StreamsOver (told_by D.shows drives.old.items drives.new.items) task.now.pieces.now joiner.old.hits joiner.new.hits result }
     ensures ready { OnOk result (is_ready joiner.new ≡ true) }
     ensures made { IsMadeFor task.now.pieces.now joiner.new.pieces }
     ensures open { OnErr result (joiner.new.pieces ≡ joiner.old.pieces) }

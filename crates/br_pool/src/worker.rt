@@ -14,7 +14,7 @@ use std::thread;
 use std::thread::Threads;
 
 /// What a drive finds of a piece, or the reason why it gave the piece up.
-pub(crate) type Answer = Result<Found, PieceFault>;
+pub(crate) type PieceResult = Result<Found, PieceFault>;
 
 /// A drive, and whether it is out, that is, failed in this run of the pool.
 pub(crate) struct Reader<D: Drive> {
@@ -26,7 +26,7 @@ pub(crate) struct Reader<D: Drive> {
 pub(crate) struct Worker<D: Drive> {
     pub(crate) reader: Reader<D>,
     pub(crate) seat: ClaimSeat,
-    pub(crate) answers: Vec<(u32, Answer)>,
+    pub(crate) answers: Vec<(u32, PieceResult)>,
 }
 
 /// What all workers of a round share.
@@ -41,7 +41,7 @@ pub(crate) struct Round<'r, G: Gate> {
 }
 
 /// Returns whether the drive failed.
-pub(crate) fn is_failure(answer: &Answer) -> bool
+pub(crate) fn is_failure(answer: &PieceResult) -> bool
     ensures { result ≡ is_failure answer.now }
 {
     match answer {
@@ -58,7 +58,7 @@ fn read_one<D: Drive, G: Gate>(
     number: u32,
     gate: &G,
     reader: &mut Reader<D>,
-) -> Answer
+) -> PieceResult
     requires able { reader.old.out ≡ false }
     ensures number { IfOk result (λ found. found.piece ≡ piece.now.number) }
     ensures hits { FoundOver (D.shows reader.old.drive) (D.shows reader.new.drive) piece.now result }
@@ -89,7 +89,7 @@ fn read_drawn<D: Drive, G: Gate>(
     round: &Round<'_, G>,
     reader: &mut Reader<D>,
     seat: &mut ClaimSeat,
-    answers: &mut Vec<(u32, Answer)>,
+    answers: &mut Vec<(u32, PieceResult)>,
 )
     requires able { reader.old.out ≡ false }
     requires few { round.now.claims.now.limit ≡ length round.now.left.now }

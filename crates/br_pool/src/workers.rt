@@ -6,7 +6,7 @@ ghost use Rattle.br_pool.specs.Workers.{HasRun, HaveServed, IsReady, IsSetUp};
 
 use crate::gate::Gate;
 use crate::slots::fill;
-use crate::worker::{Answer, Reader, Round, Worker, run_workers};
+use crate::worker::{PieceResult, Reader, Round, Worker, run_workers};
 use br_claim::{ClaimSeat, Claims};
 use br_volume::Drive;
 use std::alloc::{AllocError, Global};
@@ -14,13 +14,13 @@ use std::thread::Threads;
 
 /// What a worker has besides its reader.
 #[derive(Drop)]
-pub(crate) struct Share {
+pub(crate) struct WorkerShare {
     pub(crate) seat: ClaimSeat,
-    pub(crate) answers: Vec<(u32, Answer)>,
+    pub(crate) answers: Vec<(u32, PieceResult)>,
 }
 
 /// Returns a share with room for `room` answers.
-fn one_share(alloc: Global, claims: &mut Claims, room: usize) -> Result<Share, AllocError>
+fn one_share(alloc: Global, claims: &mut Claims, room: usize) -> Result<WorkerShare, AllocError>
     requires few { claims.old.seats < 65536 }
     requires room { claims.old.limit ≡ room }
     ensures ready { IfOk result (λ d. IsReady claims.old.claims room d.seat d.answers) }
@@ -28,7 +28,7 @@ fn one_share(alloc: Global, claims: &mut Claims, room: usize) -> Result<Share, A
 {
     let answers = Vec::with_capacity(alloc, room)?;
     let seat = claims.seat()?;
-    Ok(Share { seat, answers })
+    Ok(WorkerShare { seat, answers })
 }
 
 /// Returns `count` shares with room for `room` answers each.
@@ -37,7 +37,7 @@ pub(crate) fn shares_for(
     claims: &mut Claims,
     count: usize,
     room: usize,
-) -> Result<Vec<Share>, AllocError>
+) -> Result<Vec<WorkerShare>, AllocError>
     requires few { claims.old.seats + count ≤ 65536 }
     requires room { claims.old.limit ≡ room }
     ensures many { IfOk result (λ shares. length shares.items ≡ count) }
@@ -54,7 +54,7 @@ pub(crate) fn shares_for(
 /// Makes a worker of each reader and a share, the last reader first.
 pub(crate) fn into_workers<D: Drive>(
     readers: &mut Vec<Reader<D>>,
-    shares: Vec<Share>,
+    shares: Vec<WorkerShare>,
     workers: &mut Vec<Worker<D>>,
 )
     requires many { length readers.old.items ≡ length shares.items }
@@ -66,7 +66,7 @@ pub(crate) fn into_workers<D: Drive>(
     ensures shares { AllZip (λ d (w : Worker D). (w.seat ≡ d.seat) × (w.answers ≡ d.answers)) shares.items workers.new.items }
 {
     for share in shares {
-        let Share { seat, answers } = share;
+        let WorkerShare { seat, answers } = share;
         workers.push_reserved(Worker {
             reader: readers.take_last(),
             seat,
@@ -98,7 +98,7 @@ pub(crate) fn out_of_workers<D: Drive>(
     mut workers: Vec<Worker<D>>,
     readers: &mut Vec<Reader<D>>,
     seats: &mut Vec<ClaimSeat>,
-    slots: &mut [Option<Answer>],
+    slots: &mut [Option<PieceResult>],
 )
     requires none { readers.old.items ≡ [] }
     requires no_seats { seats.old.items ≡ [] }
@@ -128,8 +128,8 @@ pub(crate) fn read_all<D: Drive + Send, G: Gate + Sync, R: Threads + Sync>(
     alloc: Global,
     round: &Round<'_, G>,
     readers: &mut Vec<Reader<D>>,
-    shares: Vec<Share>,
-    into: &mut [Option<Answer>],
+    shares: Vec<WorkerShare>,
+    into: &mut [Option<PieceResult>],
 ) -> Result<Vec<ClaimSeat>, AllocError>
     requires few { round.now.claims.now.limit ≡ length round.now.left.now }
     requires below { AllByRecursion (λ x. x < length round.now.pieces.now) round.now.left.now }

@@ -11,7 +11,7 @@ use Rattle.br_model.specs.Meaning.{Hit}
 use Rattle.br_model.specs.Record.{Begun, Record, with_fragment, still_open, given_out, join_from, join}
 use Rattle.br_records.specs.Opening.{begun, begun_from, bytes_between, joined_from}
 use Rattle.br_records.specs.Records.{bytes_in, fragments, prefixed}
-use Rattle.br_records.specs.declared.records.Open.{Open}
+use Rattle.br_records.specs.declared.file_record.Open.{Open}
 
 -- ---- one fragment
 

@@ -12,6 +12,7 @@ use Rattle.br_model.proofs.ListLaws.{all_weaker}
 use Rattle.br_types.proofs.KeyLaws.{key_total, key_exact}
 use Rattle.br_records.specs.Runs.{hit_order, AreListed}
 use Rattle.br_records.proofs.SortLaws.{place, place_cmp_is}
+use Rattle.br_model.proofs.OrderLaws.{is_less}
 
 -- ---- lists by place
 
@@ -108,11 +109,6 @@ up_to_parts key xs h = parts_listed (is_up_to_file key) (λ g k e t. up_to_down 
 
 -- ---- around a file
 
-less_if : (r : Ordering) → is_lt r ≡ true → r ≡ Less
-less_if Less e = refl
-less_if Equal e = absurd cc
-less_if Greater e = absurd cc
-
 equal_if : (r : Ordering) → is_lt r ≡ false → is_le r ≡ true → r ≡ Equal
 equal_if Less e t = absurd cc
 equal_if Equal e t = refl
@@ -126,7 +122,7 @@ greater_if Greater e = refl
 -- the hits before a file
 pub before_run : (key : FileKey) (xs : List Hit) (i : ℕ) → AllWithin (λ (h : Hit). is_before_file key h ≡ true) xs 0 i → AllByRecursion (λ (h : Hit). key_cmp h.key key ≡ Less) (take i xs)
 before_run key xs i all =
-    all_weaker (λ (h : Hit). is_before_file key h ≡ true) (λ (h : Hit). key_cmp h.key key ≡ Less) (λ h e. less_if (key_cmp h.key key) e) (take i xs) (front_all (λ (h : Hit). is_before_file key h ≡ true) xs i all)
+    all_weaker (λ (h : Hit). is_before_file key h ≡ true) (λ (h : Hit). key_cmp h.key key ≡ Less) (λ h e. is_less (key_cmp h.key key) e) (take i xs) (front_all (λ (h : Hit). is_before_file key h ≡ true) xs i all)
 
 both_all : {X : Type 0} (P Q R : X → Type 0) → ((x : X) → P x → Q x → R x) → (xs : List X) → AllByRecursion P xs → AllByRecursion Q xs → AllByRecursion R xs
 both_all P Q R f [] h k = tt

@@ -3,7 +3,7 @@ use Rattle.std.specs.Prelude.{ℕ, ◌^◌, nat_lt, if◌then◌else◌, Err, �
 use Rattle.br_model.specs.Answer.{◌>>=◌}
 use Rattle.br_model.specs.File as model
 use Rattle.br_model.specs.Record.{Record}
-use Rattle.br_records.specs.declared.data.Extent.{Extent}
+use Rattle.br_records.specs.declared.record_data.Extent.{Extent}
 
 -- the extent of these bytes
 abbrev pub shown_extent : List ℕ → Extent → model.Extent

@@ -8,7 +8,7 @@ use Rattle.br_model.specs.Record.{Begun, Record, join_from, with_fragment}
 use Rattle.br_records.specs.Making.{file_fault}
 use Rattle.br_records.specs.Records.{bytes_in, fragments, prefixed}
 use Rattle.br_records.specs.declared.making_fault.FileFault.{FileFault}
-use Rattle.br_records.specs.declared.records.Open.{Open}
+use Rattle.br_records.specs.declared.file_record.Open.{Open}
 
 -- the open record, with the index of its file and the bytes so far
 abbrev pub begun : ℕ → List ℕ → Open → Begun

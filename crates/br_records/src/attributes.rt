@@ -3,8 +3,8 @@ ghost use Rattle.br_model.specs.Answer.{Answers, refused_as};
 ghost use Rattle.br_model.specs.File as file;
 ghost use Rattle.br_records.specs.Making.{cause, making_fault, read_or_64};
 
+use crate::file_record::FileRecord;
 use crate::making_fault::{FileFault, MakingFault};
-use crate::records::FileRecord;
 use crate::streams::{ATTRIBUTES, count_in, first_in};
 use br_attr::{Attr, AttrFault};
 use br_types::FileIndex;

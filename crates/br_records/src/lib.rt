@@ -9,24 +9,24 @@
 #![tactic(auto)]
 
 mod attributes;
-mod data;
+mod file_record;
 mod making_fault;
 mod outline;
 mod parts;
-mod records;
+mod record_data;
 mod runs;
 mod streams;
 
 ghost use Rattle.br_records.specs.Outline.{OutlinesForesee};
 
 pub use attributes::attributes_of;
-pub use data::GREATEST_LEN;
+pub use file_record::{FileRecord, records_of};
 pub use making_fault::{FileFault, MakingFault};
 pub use outline::{Outline, Sketch, sketches_of};
-pub use records::{FileRecord, records_of};
+pub use record_data::GREATEST_LEN;
 pub use runs::{around, settle};
 pub use streams::{
-    ATTRIBUTES, DIGEST, checks_digest, count_in, first_in, has_bytes, has_sparse_data,
+    ATTRIBUTES, DATA, DIGEST, checks_digest, count_in, first_in, has_bytes, has_sparse_data,
     refuse_unsupported, skipped_in,
 };
 

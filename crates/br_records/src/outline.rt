@@ -8,9 +8,9 @@ ghost use Rattle.br_records.specs.Runs.{AreListed, listed};
 ghost use Rattle.br_records.specs.ShownRecords.{outlined, shown};
 
 use crate::attributes::attributes_of;
-use crate::data::size_of;
+use crate::file_record::{FileRecord, records_of};
 use crate::making_fault::{FileFault, MakingFault};
-use crate::records::{FileRecord, records_of};
+use crate::record_data::size_of;
 use crate::runs::around;
 use crate::streams::refuse_unsupported;
 use br_match::Hit;

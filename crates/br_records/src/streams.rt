@@ -5,14 +5,14 @@ ghost use Rattle.br_model.specs.Answer.{AnswersAlways};
 ghost use Rattle.br_model.specs.File as model;
 ghost use Rattle.br_records.specs.Making.{file_fault};
 
+use crate::file_record::FileRecord;
 use crate::making_fault::FileFault;
-use crate::records::FileRecord;
 
 /// The stream of a file's attributes.
 pub const ATTRIBUTES: u32 = 1;
 
 /// The stream of plain data.
-pub(crate) const DATA: u32 = 2;
+pub const DATA: u32 = 2;
 
 /// The stream of the data's MD5 digest.
 pub const DIGEST: u32 = 3;
@@ -21,8 +21,8 @@ pub const DIGEST: u32 = 3;
 /// at this address.
 pub(crate) const SPARSE_DATA: u32 = 6;
 
-/// The stream of a program's name, which is ignored.
-const PROGRAM_NAME: u32 = 10;
+/// The stream of the data's SHA-1 digest, which is skipped.
+const SHA1_DIGEST: u32 = 10;
 
 /// Returns whether a file of this type has bytes: types 2 and 3 do.
 pub fn has_bytes(kind: u32) -> bool
@@ -43,7 +43,7 @@ impl FileRecord<'_> {
     fn is_passed_over(&self) -> bool
         ensures { result ≡ model.is_passed_over self.now }
     {
-        self.is_stream(PROGRAM_NAME) || (1000 <= self.stream() && self.stream() <= 1999)
+        self.is_stream(SHA1_DIGEST) || (1000 <= self.stream() && self.stream() <= 1999)
     }
 
     /// Returns whether the record's stream is supported.

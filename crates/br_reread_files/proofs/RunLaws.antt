@@ -2,13 +2,15 @@
 use Rattle.std.proofs.Common.{◌≡◌, ◌≤◌, ℕ, zero, suc, List, [], ◌∷◌, ◌++◌, map, take, length, length-append, Some, refl, ap, sym, subst, ◌∙◌, arith}
 use Rattle.std.specs.Prelude.{slice_get}
 use Rattle.std.specs.List.{AllByRecursion}
+use Rattle.std.proofs.lemmas.List.{map-append}
 use Rattle.std.proofs.lemmas.Option.{same_Some}
 use Rattle.br_model.specs.Meaning.{Hit}
 use Rattle.br_model.specs.Restored.{Restored}
 use Rattle.br_data.specs.StandingHits.{StandingStays}
 use Rattle.br_data.specs.ManyDrives.{GoOn, RereadingMany}
 use Rattle.br_reread_parts.specs.Given.{GivesHits}
-use Rattle.br_reread_files.specs.Runs.{AreFirst, GivesRuns, IsPart, Run, file_of}
+use Rattle.br_join.specs.Runs.{IsPart, Run, file_of}
+use Rattle.br_reread_files.specs.Runs.{AreFirst, GivesRuns}
 use Rattle.br_reread_parts.proofs.GivenLaws.{hits_kept}
 use Rattle.br_reread_files.proofs.GivenLaws.{given_run}
 
@@ -41,10 +43,6 @@ take_whole [] (suc n) low = refl
 take_whole (x ∷ xs) zero low = absurd (omega (arith, low))
 take_whole (x ∷ xs) (suc n) low = ap (λ l. x ∷ l) (take_whole xs n (omega (arith, low)))
 
-map_more : {A B : Type 0} (f : A → B) (xs : List A) (x : A) → map f (xs ++ x ∷ []) ≡ map f xs ++ f x ∷ []
-map_more f [] x = refl
-map_more f (y ∷ ys) x = ap (λ l. f y ∷ l) (map_more f ys x)
-
 -- one file more
 pub first_more : (runs : List Run) (made new : List Restored) (r : Run) (f : Restored) → slice_get runs (length made) ≡ Some r → f ≡ file_of r → new ≡ made ++ f ∷ []
     → AreFirst runs made → AreFirst runs new
@@ -52,7 +50,7 @@ first_more runs made new r f at is pushed first =
     let one : suc (length made) ≡ length new = omega (arith, ap length pushed, length-append made (f ∷ [])) in
     pushed
     ∙ (λ i. first i ++ is i ∷ [])
-    ∙ sym (map_more file_of (take (length made) runs) r)
+    ∙ sym (map-append file_of (take (length made) runs) (r ∷ []))
     ∙ ap (map file_of) (sym (take_next runs (length made) r at))
     ∙ ap (λ (n : ℕ). map file_of (take n runs)) one
 

@@ -9,10 +9,11 @@ use Rattle.br_model.specs.Volume.{Volume}
 use Rattle.br_join.specs.Outcome.{restored}
 use Rattle.br_data.specs.ManyDrives.{GivesMany, GoesOn, RereadingMany, driven_by}
 use Rattle.br_reread_parts.specs.Given.{GivesHits}
-use Rattle.br_reread_files.specs.Runs.{AreFirst, GivesRuns, Run, file_of}
+use Rattle.br_join.specs.Runs.{Run, file_of}
+use Rattle.br_reread_files.specs.Runs.{AreFirst, GivesRuns}
 use Rattle.br_reread_files.specs.Sharing.{HasMade, IsBegun, many_of, runs_in}
 use Rattle.br_data.proofs.GoOnLaws.{all_go}
-use Rattle.br_reread_files.specs.declared.sharing.Share.{Share}
+use Rattle.br_reread_files.specs.declared.sharing.FileShare.{FileShare}
 use Rattle.br_reread_files.specs.declared.file_work.Work.{Work}
 use Rattle.br_reread_parts.proofs.GivenLaws.{all_behind}
 use Rattle.br_reread_files.proofs.RunLaws.{none_first}
@@ -58,10 +59,10 @@ first_or x ([] ∷ ls) = x
 first_or x ((y ∷ ys) ∷ ls) = y
 
 module _ {D : Type 0} (shows : D → Option (List Volume)) (failures : D → ℕ) (groups : List Group) where
-  abbrev drives_of : Share D → List D
+  abbrev drives_of : FileShare D → List D
   drives_of s = s.drives.items
 
-  abbrev work_of : Share D → Work
+  abbrev work_of : FileShare D → Work
   work_of s = s.work
 
   abbrev one : D → List D
@@ -76,11 +77,11 @@ module _ {D : Type 0} (shows : D → Option (List Volume)) (failures : D → ℕ
   singles [] = tt
   singles (x ∷ xs) = (refl, singles xs)
 
-  turned : (ss : List (Share D)) (xs : List D) → reverse (map drives_of ss) ≡ map one xs → map drives_of ss ≡ reverse (map one xs)
+  turned : (ss : List (FileShare D)) (xs : List D) → reverse (map drives_of ss) ≡ map one xs → map drives_of ss ≡ reverse (map one xs)
   turned ss xs e = sym (reverse_reverse (map drives_of ss)) ∙ ap reverse e
 
   -- the shares that drives went into have one each
-  pub one_dealt : (ss : List (Share D)) (left xs : List D) → map one left ++ reverse (map drives_of ss) ≡ map one xs → AllByRecursion (λ (s : Share D). length s.drives.items ≡ 1) ss
+  pub one_dealt : (ss : List (FileShare D)) (left xs : List D) → map one left ++ reverse (map drives_of ss) ≡ map one xs → AllByRecursion (λ (s : FileShare D). length s.drives.items ≡ 1) ss
   one_dealt ss left xs e =
       all_unmapped (λ (ds : List D). length ds ≡ 1) drives_of ss
       (subst (AllByRecursion (λ (ds : List D). length ds ≡ 1)) (reverse_reverse (map drives_of ss))
@@ -89,7 +90,7 @@ module _ {D : Type 0} (shows : D → Option (List Volume)) (failures : D → ℕ
       (subst (AllByRecursion (λ (ds : List D). length ds ≡ 1)) (sym e) (singles xs)))))
 
   -- as many drives are left and dealt as there were
-  pub many_dealt : (ss : List (Share D)) (left xs : List D) → map one left ++ reverse (map drives_of ss) ≡ map one xs → length left + length ss ≡ length xs
+  pub many_dealt : (ss : List (FileShare D)) (left xs : List D) → map one left ++ reverse (map drives_of ss) ≡ map one xs → length left + length ss ≡ length xs
   many_dealt ss left xs e =
       omega (arith, ap length e, length-append (map one left) (reverse (map drives_of ss)), length_map one left, length_map one xs, length_reverse (map drives_of ss), length_map drives_of ss)
 
@@ -109,16 +110,16 @@ module _ {D : Type 0} (shows : D → Option (List Volume)) (failures : D → ℕ
   length_driven : (ds : List D) → length (driven_by shows failures ds) ≡ length ds
   length_driven ds = length_map (λ (d : D). record { shown = shows d; failures = failures d }) ds
 
-  same_length : (s t : Share D) → HasMade shows failures groups s t → length s.drives.items ≡ 1 → length t.drives.items ≡ 1
+  same_length : (s t : FileShare D) → HasMade shows failures groups s t → length s.drives.items ≡ 1 → length t.drives.items ≡ 1
   same_length s t has is =
       sym (length_driven t.drives.items) ∙ zip_length GoesOn (driven_by shows failures s.drives.items) (driven_by shows failures t.drives.items) has.on
       ∙ length_driven s.drives.items ∙ is
 
   -- and so it has after the run
-  one_each : (ss ts : List (Share D)) (xs : List D) → reverse (map drives_of ss) ≡ map one xs → AllZip (HasMade shows failures groups) ss ts
-      → AllByRecursion (λ (s : Share D). length s.drives.items ≡ 1) ts
+  one_each : (ss ts : List (FileShare D)) (xs : List D) → reverse (map drives_of ss) ≡ map one xs → AllZip (HasMade shows failures groups) ss ts
+      → AllByRecursion (λ (s : FileShare D). length s.drives.items ≡ 1) ts
   one_each ss ts xs e has =
-      all_over (HasMade shows failures groups) (λ (s : Share D). length s.drives.items ≡ 1) (λ (s : Share D). length s.drives.items ≡ 1) same_length ss ts has
+      all_over (HasMade shows failures groups) (λ (s : FileShare D). length s.drives.items ≡ 1) (λ (s : FileShare D). length s.drives.items ≡ 1) same_length ss ts has
       (all_unmapped (λ (ds : List D). length ds ≡ 1) drives_of ss
       (subst (AllByRecursion (λ (ds : List D). length ds ≡ 1)) (sym (turned ss xs e)) (all_reverse (λ (ds : List D). length ds ≡ 1) (map one xs) (singles xs))))
 
@@ -133,14 +134,14 @@ module _ {D : Type 0} (shows : D → Option (List Volume)) (failures : D → ℕ
   go_each (x ∷ xs) [] z = absurd z
   go_each (x ∷ xs) (y ∷ ys) z = (z.0.0, go_each xs ys z.1)
 
-  all_on : (ss ts : List (Share D)) (xs ys : List D) → reverse (map drives_of ss) ≡ map one xs → map one ys ≡ reverse (map drives_of ts)
+  all_on : (ss ts : List (FileShare D)) (xs ys : List D) → reverse (map drives_of ss) ≡ map one xs → map one ys ≡ reverse (map drives_of ts)
       → AllZip (HasMade shows failures groups) ss ts → AllZip GoesOn (driven_by shows failures xs) (driven_by shows failures ys)
   all_on ss ts xs ys e f has =
       go_each xs ys
       (subst (λ (ds : List (List D)). AllZip Go ds (map one ys)) e
       (subst (AllZip Go (reverse (map drives_of ss))) (sym f)
       (zip_reverse Go (map drives_of ss) (map drives_of ts)
-      (zip_map Go drives_of ss ts (zip_so (HasMade shows failures groups) (λ (s t : Share D). Go s.drives.items t.drives.items) (λ s t h. h.on) ss ts has)))))
+      (zip_map Go drives_of ss ts (zip_so (HasMade shows failures groups) (λ (s t : FileShare D). Go s.drives.items t.drives.items) (λ s t h. h.on) ss ts has)))))
 
   -- ---- what all drives give, one of them gives
 
@@ -151,7 +152,7 @@ module _ {D : Type 0} (shows : D → Option (List Volume)) (failures : D → ℕ
   gives_each all [] so = tt
   gives_each all (x ∷ xs) so = ((λ spot bytes given. ((so spot bytes given).0, tt)), gives_each all xs (λ spot bytes given. (so spot bytes given).1))
 
-  gives_shares : (ss : List (Share D)) (xs : List D) → reverse (map drives_of ss) ≡ map one xs → AllByRecursion (λ (s : Share D). Gives xs s.drives.items) ss
+  gives_shares : (ss : List (FileShare D)) (xs : List D) → reverse (map drives_of ss) ≡ map one xs → AllByRecursion (λ (s : FileShare D). Gives xs s.drives.items) ss
   gives_shares ss xs e =
       all_unmapped (Gives xs) drives_of ss
       (subst (AllByRecursion (Gives xs)) (sym (turned ss xs e)) (all_reverse (Gives xs) (map one xs) (gives_each xs xs (λ spot bytes given. given))))
@@ -169,10 +170,10 @@ module _ {D : Type 0} (shows : D → Option (List Volume)) (failures : D → ℕ
   both P Q R so (x ∷ xs) p q = (so x p.0 q.0, both P Q R so xs p.1 q.1)
 
   -- the drive of each share gives the files of it
-  abbrev IsGiven : Share D → Type 0
+  abbrev IsGiven : FileShare D → Type 0
   IsGiven s = (s.work.made.items ≡ []) × GivesRuns (many_of shows failures groups s) s.work.runs.now
 
-  begun_one : (s t : Share D) → HasMade shows failures groups s t → IsGiven s → IsBegun t.work
+  begun_one : (s t : FileShare D) → HasMade shows failures groups s t → IsGiven s → IsBegun t.work
   begun_one s t has is = record {
     first =
         subst (λ (rs : List Run). AreFirst rs (map restored t.work.made.items)) (sym has.runs)
@@ -180,55 +181,55 @@ module _ {D : Type 0} (shows : D → Option (List Volume)) (failures : D → ℕ
     all = subst (λ (rs : List Run). OnOk t.work.end (length rs ≤ length t.work.made.items)) (sym has.runs) has.all;
   }
 
-  given_all : (ss : List (Share D)) (xs : List D) → reverse (map drives_of ss) ≡ map one xs → AllByRecursion (λ (w : Work). w.made.items ≡ []) (map work_of ss)
+  given_all : (ss : List (FileShare D)) (xs : List D) → reverse (map drives_of ss) ≡ map one xs → AllByRecursion (λ (w : Work). w.made.items ≡ []) (map work_of ss)
       → GivesRuns (by xs) (runs_in (map work_of ss)) → AllByRecursion IsGiven ss
   given_all ss xs e none given =
-      both (λ (s : Share D). s.work.made.items ≡ []) (λ (s : Share D). GivesRuns (many_of shows failures groups s) s.work.runs.now) IsGiven (λ s p q. (p, q)) ss
+      both (λ (s : FileShare D). s.work.made.items ≡ []) (λ (s : FileShare D). GivesRuns (many_of shows failures groups s) s.work.runs.now) IsGiven (λ s p q. (p, q)) ss
       (all_unmapped (λ (w : Work). w.made.items ≡ []) work_of ss none)
-      (both (λ (s : Share D). Gives xs s.drives.items) (λ (s : Share D). GivesRuns (by xs) s.work.runs.now) (λ (s : Share D). GivesRuns (many_of shows failures groups s) s.work.runs.now)
+      (both (λ (s : FileShare D). Gives xs s.drives.items) (λ (s : FileShare D). GivesRuns (by xs) s.work.runs.now) (λ (s : FileShare D). GivesRuns (many_of shows failures groups s) s.work.runs.now)
       (λ s so g. runs_by xs s.drives.items so s.work.runs.now g) ss (gives_shares ss xs e)
       (all_unmapped (λ (w : Work). GivesRuns (by xs) w.runs.now) work_of ss (given_works (by xs) (map work_of ss) given)))
 
   -- what is made of each is the first of its files
-  all_begun : (ss ts : List (Share D)) (xs : List D) (fresh works : List Work) → reverse (map drives_of ss) ≡ map one xs → map work_of ss ≡ fresh
+  all_begun : (ss ts : List (FileShare D)) (xs : List D) (fresh works : List Work) → reverse (map drives_of ss) ≡ map one xs → map work_of ss ≡ fresh
       → AllByRecursion (λ (w : Work). w.made.items ≡ []) fresh → AllZip (HasMade shows failures groups) ss ts → works ≡ reverse (map work_of ts)
       → GivesRuns (by xs) (runs_in fresh) → AllByRecursion IsBegun works
   all_begun ss ts xs fresh works e same none has back given =
       subst (AllByRecursion IsBegun) (sym back)
       (all_reverse IsBegun (map work_of ts)
       (all_mapped IsBegun work_of ts
-      (all_over (HasMade shows failures groups) IsGiven (λ (t : Share D). IsBegun t.work) begun_one ss ts has
+      (all_over (HasMade shows failures groups) IsGiven (λ (t : FileShare D). IsBegun t.work) begun_one ss ts has
       (given_all ss xs e (subst (AllByRecursion (λ (w : Work). w.made.items ≡ [])) (sym same) none) (subst (λ (ws : List Work). GivesRuns (by xs) (runs_in ws)) (sym same) given)))))
 
   -- ---- the files stay
 
-  same_runs : (ss ts : List (Share D)) → AllZip (HasMade shows failures groups) ss ts → runs_in (map work_of ts) ≡ runs_in (map work_of ss)
+  same_runs : (ss ts : List (FileShare D)) → AllZip (HasMade shows failures groups) ss ts → runs_in (map work_of ts) ≡ runs_in (map work_of ss)
   same_runs [] [] z = refl
   same_runs [] (t ∷ ts) z = absurd z
   same_runs (s ∷ ss) [] z = absurd z
   same_runs (s ∷ ss) (t ∷ ts) z = λ i. z.0.runs i ++ same_runs ss ts z.1 i
 
-  pub runs_back : (ss ts : List (Share D)) (fresh works : List Work) → map work_of ss ≡ fresh → AllZip (HasMade shows failures groups) ss ts → works ≡ reverse (map work_of ts)
+  pub runs_back : (ss ts : List (FileShare D)) (fresh works : List Work) → map work_of ss ≡ fresh → AllZip (HasMade shows failures groups) ss ts → works ≡ reverse (map work_of ts)
       → runs_in (reverse works) ≡ runs_in fresh
   runs_back ss ts fresh works same has back =
       ap runs_in (ap reverse back ∙ reverse_reverse (map work_of ts)) ∙ same_runs ss ts has ∙ ap runs_in same
 
   -- no drive is left if all are dealt
-  all_dealt : (ss : List (Share D)) (left xs : List D) → left ≡ [] → map one left ++ reverse (map drives_of ss) ≡ map one xs → reverse (map drives_of ss) ≡ map one xs
+  all_dealt : (ss : List (FileShare D)) (left xs : List D) → left ≡ [] → map one left ++ reverse (map drives_of ss) ≡ map one xs → reverse (map drives_of ss) ≡ map one xs
   all_dealt ss left xs none e = ap (λ (ds : List D). map one ds ++ reverse (map drives_of ss)) (sym none) ∙ e
 
   -- ---- a run, from the drives that were dealt to those that went back
 
-  pub run_one : (ss ts : List (Share D)) (left xs : List D) → left ≡ [] → map one left ++ reverse (map drives_of ss) ≡ map one xs → AllZip (HasMade shows failures groups) ss ts
-      → AllByRecursion (λ (s : Share D). length s.drives.items ≡ 1) ts
+  pub run_one : (ss ts : List (FileShare D)) (left xs : List D) → left ≡ [] → map one left ++ reverse (map drives_of ss) ≡ map one xs → AllZip (HasMade shows failures groups) ss ts
+      → AllByRecursion (λ (s : FileShare D). length s.drives.items ≡ 1) ts
   run_one ss ts left xs none e has = one_each ss ts xs (all_dealt ss left xs none e) has
 
-  pub run_on : (ss ts : List (Share D)) (left xs ys : List D) → left ≡ [] → map one left ++ reverse (map drives_of ss) ≡ map one xs → map one ys ≡ map one left ++ reverse (map drives_of ts)
+  pub run_on : (ss ts : List (FileShare D)) (left xs ys : List D) → left ≡ [] → map one left ++ reverse (map drives_of ss) ≡ map one xs → map one ys ≡ map one left ++ reverse (map drives_of ts)
       → AllZip (HasMade shows failures groups) ss ts → AllZip GoesOn (driven_by shows failures xs) (driven_by shows failures ys)
   run_on ss ts left xs ys none e f has =
       all_on ss ts xs ys (all_dealt ss left xs none e) (f ∙ ap (λ (ds : List D). map one ds ++ reverse (map drives_of ts)) none) has
 
-  pub run_begun : (ss ts : List (Share D)) (left xs : List D) (fresh works : List Work) → left ≡ [] → map one left ++ reverse (map drives_of ss) ≡ map one xs → map work_of ss ≡ fresh
+  pub run_begun : (ss ts : List (FileShare D)) (left xs : List D) (fresh works : List Work) → left ≡ [] → map one left ++ reverse (map drives_of ss) ≡ map one xs → map work_of ss ≡ fresh
       → AllByRecursion (λ (w : Work). w.made.items ≡ []) fresh → AllZip (HasMade shows failures groups) ss ts → works ≡ reverse (map work_of ts)
       → GivesRuns (by xs) (runs_in fresh) → AllByRecursion IsBegun works
   run_begun ss ts left xs fresh works none e same made has back given = all_begun ss ts xs fresh works (all_dealt ss left xs none e) same made has back given

@@ -37,7 +37,7 @@ both_more (Some earlier) (Some between) (Some later) x y first second =
 
 -- what a sink put of two files
 pub puts_done : (given : Type 0) (put : Option TwoPut) (one other : Item) (had has : Option (List Item)) → HasMore (two_put one other put) had has
-    → IfSome put (AreTwoAlike one other) → (given → IfSome put (AreTwoSame one other)) → PutsAny (option_map done_as put) given one other had has
+    → IfSome put (AreTwoAlike one other) → (given → IfSome put (AreTwoSame one other)) → PutsAny (option_map done_as put) given (one, other) had has
 puts_done given None one other had has more alike same = none_more had has more
 puts_done given (Some (put.Both x y)) one other had has more alike same = record { first = x; second = y; alike = alike; same = same; more = more }
 puts_done given (Some (put.One x why)) one other had has more alike same = record { bytes = x; alike = alike; same = same; more = more }
@@ -45,9 +45,9 @@ puts_done given (Some (put.Neither why)) one other had has more alike same = non
 
 -- the same of its outcome
 pub outcome_done : (given : Type 0) (put : Option TwoPut) (outcome : Option TwoDone) (one other : Item) (had has : Option (List Item)) → outcome ≡ option_map done_as put
-    → HasMore (two_put one other put) had has → IfSome put (AreTwoAlike one other) → (given → IfSome put (AreTwoSame one other)) → PutsAny outcome given one other had has
+    → HasMore (two_put one other put) had has → IfSome put (AreTwoAlike one other) → (given → IfSome put (AreTwoSame one other)) → PutsAny outcome given (one, other) had has
 outcome_done given put outcome one other had has is more alike same =
-    subst (λ (o : Option TwoDone). PutsAny o given one other had has) (sym is) (puts_done given put one other had has more alike same)
+    subst (λ (o : Option TwoDone). PutsAny o given (one, other) had has) (sym is) (puts_done given put one other had has more alike same)
 
 -- the sink failed
 pub fails_done : (put : Option TwoPut) → FailsAny (option_map done_as put) → FailsTwo put
@@ -57,8 +57,8 @@ fails_done (Some (put.One x why)) failed = ap Some failed
 fails_done (Some (put.Neither why)) failed = ap Some failed
 
 -- the same, if more is given
-pub puts_any_if : (given less : Type 0) (done : Option TwoDone) (one other : Item) (had has : Option (List Item)) → (given → less) → PutsAny done less one other had has
-    → PutsAny done given one other had has
+pub puts_any_if : (given less : Type 0) (done : Option TwoDone) (one other : Item) (had has : Option (List Item)) → (given → less) → PutsAny done less (one, other) had has
+    → PutsAny done given (one, other) had has
 puts_any_if given less None one other had has so puts = puts
 puts_any_if given less (Some Both) one other had has so puts =
     record { first = puts.first; second = puts.second; alike = puts.alike; same = λ g. puts.same (so g); more = puts.more }
@@ -67,9 +67,9 @@ puts_any_if given less (Some (Neither why)) one other had has so puts = puts
 
 -- two files that were put after nothing was
 pub puts_after : (given less : Type 0) (done : TwoDone) (one other : Item) (had between has : Option (List Item)) → (given → less) → between ≡ had
-    → PutsTwo done less one other between has → PutsTwo done given one other had has
+    → PutsTwo done less (one, other) between has → PutsTwo done given (one, other) had has
 puts_after given less done one other had between has so is puts =
-    puts_any_if given less (Some done) one other had has so (subst (λ (before : Option (List Item)). PutsTwo done less one other before has) is puts)
+    puts_any_if given less (Some done) one other had has so (subst (λ (before : Option (List Item)). PutsTwo done less (one, other) before has) is puts)
 
 -- what follows if the hits of one file are given, and what if those of another are
 pub both_give : (first second : Type 0) (many : RereadingMany) (hits some more : List Hit) (key later : FileKey) (one other : Item) → some ≡ hits → more ≡ hits

@@ -1,30 +1,13 @@
--- Files by their hits, and the number of them that are made.
-use Rattle.std.specs.Prelude.{◌≡◌, ◌++◌, ℕ, List, length, map, take, Option}
+-- How many files of runs of hits are made.
+use Rattle.std.specs.Prelude.{◌≡◌, List, length, map, take}
 use Rattle.std.specs.List.{AllByRecursion}
-use Rattle.br_model.specs.Meaning.{Hit}
 use Rattle.br_model.specs.Name.{FileKey}
 use Rattle.br_model.specs.Restored.{Restored}
 use Rattle.br_data.specs.ManyDrives.{RereadingMany}
 use Rattle.br_join.specs.Outcome.{restored}
-use Rattle.br_join.specs.Runs.{file_of_run}
+use Rattle.br_join.specs.Runs.{Run, file_of}
 use Rattle.br_join.specs.declared.item.Outcome.{Outcome}
 use Rattle.br_reread_parts.specs.Given.{GivesHits}
-
--- the hits of one file, and the path under which the file was planned, if it was
-pub record Run : Type 0 where
-  pub key : FileKey
-  pub path : Option (List ℕ)
-  pub hits : List Hit
-
--- the file that the hits make
-abbrev pub file_of : Run → Restored
-file_of r = file_of_run r.key r.path r.hits
-
--- the hits of the run are some of these, one after another
-pub record IsPart (all : List Hit) (r : Run) : Type 0 where
-  pub before : List Hit
-  pub after : List Hit
-  pub joined : before ++ (r.hits ++ after) ≡ all
 
 -- the bytes of all hits of the files are given as they were found
 abbrev pub GivesRuns : RereadingMany → List Run → Type 0

@@ -7,8 +7,9 @@ use Rattle.br_model.specs.Volume.{Volume}
 use Rattle.br_join.specs.Outcome.{restored}
 use Rattle.br_join.specs.declared.item.Outcome.{Outcome}
 use Rattle.br_data.specs.ManyDrives.{GoesOn, RereadingMany, driven_by}
-use Rattle.br_reread_files.specs.Runs.{AreFirst, GivesRuns, Run, StayFirst, file_of}
-use Rattle.br_reread_files.specs.declared.sharing.Share.{Share}
+use Rattle.br_join.specs.Runs.{Run, file_of}
+use Rattle.br_reread_files.specs.Runs.{AreFirst, GivesRuns, StayFirst}
+use Rattle.br_reread_files.specs.declared.sharing.FileShare.{FileShare}
 use Rattle.br_reread_files.specs.declared.file_work.Work.{Work}
 
 -- The files that are made are the first ones; they are all if no fault ended the work.
@@ -24,6 +25,10 @@ runs_in works = flat_map (λ (w : Work). w.runs.now) works
 -- found
 abbrev pub AreBegunIfGiven : RereadingMany → List Work → List Work → Type 0
 AreBegunIfGiven many before after = GivesRuns many (runs_in before) → AllByRecursion IsBegun after
+
+-- all files of a work that was begun are made, if the bytes of their hits are given as they were found
+abbrev pub MakesAllIfGiven : RereadingMany → Work → Work → Type 0
+MakesAllIfGiven many before after = GivesRuns many before.runs.now → IsBegun before → map restored after.made.items ≡ map file_of before.runs.now
 
 -- all files of a work that was begun are appended, if the bytes of their hits are given as they were found
 abbrev pub AppendsIfGiven : RereadingMany → Work → List (FileKey × Outcome) → List (FileKey × Outcome) → Type 0
@@ -41,16 +46,16 @@ abbrev pub many_over : {D : Type 0} → (D → Option (List Volume)) → (D → 
 many_over shows failures groups drives = record { drives = driven_by shows failures drives; groups = groups }
 
 -- the drives of a share, and the groups
-abbrev pub many_of : {D : Type 0} → (D → Option (List Volume)) → (D → ℕ) → List Group → Share D → RereadingMany
+abbrev pub many_of : {D : Type 0} → (D → Option (List Volume)) → (D → ℕ) → List Group → FileShare D → RereadingMany
 many_of shows failures groups s = many_over shows failures groups s.drives.items
 
 -- the drives of the shares, the last share first
-abbrev pub drives_from_last : {D : Type 0} → List (Share D) → List (List D)
-drives_from_last {D} shares = reverse (map (λ (s : Share D). s.drives.items) shares)
+abbrev pub drives_from_last : {D : Type 0} → List (FileShare D) → List (List D)
+drives_from_last {D} shares = reverse (map (λ (s : FileShare D). s.drives.items) shares)
 
 -- A share before and after files were made: its drives went on. More of its files may be made, and
 -- all are made if no fault ended the work.
-pub record HasMade {D : Type 0} (shows : D → Option (List Volume)) (failures : D → ℕ) (groups : List Group) (before after : Share D) : Type 0 where
+pub record HasMade {D : Type 0} (shows : D → Option (List Volume)) (failures : D → ℕ) (groups : List Group) (before after : FileShare D) : Type 0 where
   pub runs : after.work.runs.now ≡ before.work.runs.now
   pub on : AllZip GoesOn (driven_by shows failures before.drives.items) (driven_by shows failures after.drives.items)
   pub first : StayFirst (many_of shows failures groups before) before.work.runs.now before.work.made.items after.work.made.items

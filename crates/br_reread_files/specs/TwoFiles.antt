@@ -10,7 +10,9 @@ use Rattle.br_sink.specs.declared.file_parts.PartsFault.TheVariants.{Fault}
 use Rattle.br_sink.specs.declared.two_parts.TwoPut.{TwoPut}
 use Rattle.br_sink.specs.declared.two_parts.TwoPut.TheVariants as put
 use Rattle.br_reread_parts.specs.FileParts.{PutsAlike}
+use Rattle.br_reread_parts.specs.declared.both.PlainFile.{PlainFile}
 use Rattle.br_reread_files.specs.FileParts.{GivesItem}
+use Rattle.br_reread_files.specs.Gathered.{Gathered}
 use Rattle.br_reread_files.specs.declared.two_files.KeyedItem.{KeyedItem}
 use Rattle.br_reread_files.specs.declared.two_files.TwoDone.{TwoDone}
 use Rattle.br_reread_files.specs.declared.two_files.TwoDone.TheVariants.{Both, One, Neither}
@@ -30,15 +32,15 @@ pub record PutsBoth (given : Type 0) (one other : Item) (had has : Option (List 
   pub more : HasMore (with_bytes one first ∷ with_bytes other second ∷ []) had has
 
 -- both files were put, or the first alone, or neither
-abbrev pub PutsTwo : TwoDone → Type 0 → Item → Item → Option (List Item) → Option (List Item) → Type 0
-PutsTwo Both given one other had has = PutsBoth given one other had has
-PutsTwo (One why) given one other had has = PutsAlike given one had has
-PutsTwo (Neither why) given one other had has = has ≡ had
+abbrev pub PutsTwo : TwoDone → Type 0 → Item × Item → Option (List Item) → Option (List Item) → Type 0
+PutsTwo Both given two had has = PutsBoth given two.0 two.1 had has
+PutsTwo (One why) given two had has = PutsAlike given two.0 had has
+PutsTwo (Neither why) given two had has = has ≡ had
 
--- the same, if the files were tried
-abbrev pub PutsAny : Option TwoDone → Type 0 → Item → Item → Option (List Item) → Option (List Item) → Type 0
-PutsAny (Some done) given one other had has = PutsTwo done given one other had has
-PutsAny None given one other had has = has ≡ had
+-- the same, if anything was tried
+abbrev pub PutsAny : Option TwoDone → Type 0 → Item × Item → Option (List Item) → Option (List Item) → Type 0
+PutsAny (Some done) given two had has = PutsTwo done given two had has
+PutsAny None given two had has = has ≡ had
 
 -- the sink failed to put one of the files
 abbrev pub FailsEither : TwoDone → Type 0
@@ -51,10 +53,18 @@ abbrev pub FailsAny : Option TwoDone → Type 0
 FailsAny (Some done) = FailsEither done
 FailsAny None = ⊥
 
+-- the files of these two
+abbrev pub plain_files : PlainFile → PlainFile → Item × Item
+plain_files one other = (one.item.now, other.item.now)
+
 -- the hits are read again as they were found, and those with the two keys make the two files
 abbrev pub GivesBoth : RereadingMany → List Hit → FileKey → FileKey → Item → Item → Type 0
 GivesBoth many hits key later one other = GivesItem many hits key one × GivesItem many hits later other
 
--- the same holds for these two files, by their keys
-abbrev pub GivesKeyed : RereadingMany → List Hit → KeyedItem → KeyedItem → Type 0
-GivesKeyed many hits one other = GivesBoth many hits one.key other.key one.item.now other.item.now
+-- the files of these two, by their keys
+abbrev pub files : KeyedItem → KeyedItem → Item × Item
+files one other = (one.item.now, other.item.now)
+
+-- what was gathered is read again as it was found, and the hits with the keys of these two make their files
+abbrev pub GivesKeyed : RereadingMany → Gathered → KeyedItem → KeyedItem → Type 0
+GivesKeyed many gathered one other = GivesBoth many gathered.hits one.key other.key one.item.now other.item.now

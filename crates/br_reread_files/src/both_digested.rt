@@ -6,13 +6,12 @@ ghost use Rattle.br_join.specs.Outcome.{restored};
 ghost use Rattle.br_data.specs.ManyDrives.{GoOn, HaveFailed};
 ghost use Rattle.br_reread_files.specs.Digesting.{AreRead, IsDigested, IsRead, IsWhole, ReadsOn};
 ghost use Rattle.br_reread_parts.specs.Given.{GivesHits};
-ghost use Rattle.br_reread_files.specs.Runs.{file_of};
+ghost use Rattle.br_join.specs.Runs.{file_of};
 ghost use Rattle.br_reread_parts.specs.Windows.{data_bytes};
 
 use crate::digesting::{Ahead, Digesting, digest_rest, finish, open, read_ahead, take_ahead};
-use crate::runs::Run;
 use br_data::{AgainFault, OverMany, standing_stays};
-use br_join::{Outcome, named};
+use br_join::{Outcome, Run, named};
 use br_match::Hit;
 use br_reread_parts::{DIGESTED, cut_window, digest_window};
 use br_volume::Drive;

@@ -1,16 +1,14 @@
-//! Files that one drive makes: two long ones side by side, and every other one alone.
+//! Files that are made one after another, or two long ones side by side.
 ghost use Rattle.std.specs.Prelude.{◌≡◌, ◌<◌, ◌≤◌, ◌+◌, length, Err, OnOk};
 ghost use Rattle.br_data.specs.declared.reread_fault.AgainFault.TheVariants.{Failed};
 ghost use Rattle.br_data.specs.ManyDrives.{GoOn, HaveFailed};
 ghost use Rattle.br_reread_files.specs.Runs.{StayFirst};
 
 use crate::both_digested::files_by_two;
-use crate::file_work::make_one;
-use crate::made_again::push_file;
+use crate::made_again::{file_by, push_file};
 use crate::putting::has_sparse_data;
-use crate::runs::Run;
 use br_data::{AgainFault, OverMany, standing_stays};
-use br_join::Outcome;
+use br_join::{Outcome, Run};
 use br_reread_parts::{DIGESTED, cut_window};
 use br_types::FileKey;
 use br_volume::Drive;
@@ -22,7 +20,31 @@ fn is_long(run: &Run<'_>) -> bool {
     !cut_window(run.hits, DIGESTED).rest.is_empty() && !has_sparse_data(run.hits)
 }
 
-/// Makes the next two files side by side. The files already made come first in the list.
+/// Makes the next file: the one after as many as are made.
+///
+/// # Errors
+///
+/// Those of `many`, and `Memory` if memory runs out. Then no file is made.
+fn make_one<D: Drive>(
+    rt: &impl Threads,
+    alloc: Global,
+    many: &mut OverMany<'_, D>,
+    runs: &[Run<'_>],
+    made: &mut Vec<(FileKey, Outcome)>,
+) -> Result<(), AgainFault>
+    requires { length made.old.items < length runs.now }
+    ensures first { StayFirst many.old runs.now made.old.items made.new.items }
+    ensures more { OnOk result (length made.old.items < length made.new.items) }
+    ensures on { GoOn many.old many.new }
+    ensures failed { result ≡ Err Failed → HaveFailed many.old many.new }
+{
+    let next = &runs[made.len()];
+    let outcome = file_by(rt, alloc, many, next)?;
+    push_file(made, next.key, outcome)?;
+    Ok(())
+}
+
+/// Makes the next two files side by side: the ones after as many as are made.
 ///
 /// # Errors
 ///
@@ -48,7 +70,7 @@ fn make_two<D: Drive>(
     Ok(())
 }
 
-/// Makes the next two files side by side if both are long, else only the next one.
+/// Makes the next two files side by side, if that is asked for and both are long, and else the next one.
 ///
 /// # Errors
 ///
@@ -59,6 +81,7 @@ fn make_next<D: Drive>(
     many: &mut OverMany<'_, D>,
     runs: &[Run<'_>],
     made: &mut Vec<(FileKey, Outcome)>,
+    by_two: bool,
 ) -> Result<(), AgainFault>
     requires { length made.old.items < length runs.now }
     ensures first { StayFirst many.old runs.now made.old.items made.new.items }
@@ -67,24 +90,26 @@ fn make_next<D: Drive>(
     ensures failed { result ≡ Err Failed → HaveFailed many.old many.new }
 {
     let next = made.len();
-    if next + 1 < runs.len() && is_long(&runs[next]) && is_long(&runs[next + 1]) {
+    if by_two && next + 1 < runs.len() && is_long(&runs[next]) && is_long(&runs[next + 1]) {
         return make_two(rt, alloc, many, runs, made);
     }
     make_one(rt, alloc, many, runs, made)
 }
 
-/// Makes the files that are left, after those already made.
+/// Makes the files that are left: those after as many as are made. `by_two` says whether two long files are made
+/// side by side.
 ///
 /// # Errors
 ///
 /// Those of `many`, and `Memory` if memory runs out. Then the files before the fault are made.
 #[tactic(auto, using(br_data::proofs::GoOnLaws::go_itself, br_data::proofs::GoOnLaws::go_more, br_data::proofs::GoOnLaws::failed_on))]
-pub(crate) fn make_by_two<D: Drive>(
+pub(crate) fn make_left<D: Drive>(
     rt: &impl Threads,
     alloc: Global,
     many: &mut OverMany<'_, D>,
     runs: &[Run<'_>],
     made: &mut Vec<(FileKey, Outcome)>,
+    by_two: bool,
 ) -> Result<(), AgainFault>
     ensures first { StayFirst many.old runs.now made.old.items made.new.items }
     ensures all { OnOk result (length runs.now ≤ length made.new.items) }
@@ -93,7 +118,7 @@ pub(crate) fn make_by_two<D: Drive>(
 {
     standing_stays();
     while made.len() < runs.len() {
-        make_next(rt, alloc, many, runs, made)?;
+        make_next(rt, alloc, many, runs, made, by_two)?;
     }
     Ok(())
 }

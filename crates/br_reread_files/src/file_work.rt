@@ -1,71 +1,18 @@
-//! Files that are made one after another: one drive begins, and others may continue.
-ghost use Rattle.std.specs.Prelude.{◌≡◌, ◌++◌, ◌<◌, ◌≤◌, [], length, map, Err, IfOk, OnOk};
+//! Files that are made one after another, begun by one drive and gone on with by others.
+ghost use Rattle.std.specs.Prelude.{◌≡◌, ◌++◌, [], Err, IfOk, OnOk};
 ghost use Rattle.br_data.specs.declared.reread_fault.AgainFault.TheVariants.{Failed};
-ghost use Rattle.br_join.specs.Outcome.{restored};
 ghost use Rattle.br_data.specs.ManyDrives.{GoOn, HaveFailed};
-ghost use Rattle.br_reread_files.specs.Runs.{GivesRuns, StayFirst, file_of};
-ghost use Rattle.br_reread_files.specs.Sharing.{AppendsIfGiven, AreAllIfGiven, IsBegun};
+ghost use Rattle.br_reread_files.specs.Sharing.{AppendsIfGiven, AreAllIfGiven, MakesAllIfGiven};
 
-use crate::made_again::{file_by, push_file};
-use crate::runs::Run;
+use crate::file_pairs::make_left;
 use br_data::{AgainFault, OverMany, standing_stays};
-use br_join::Outcome;
+use br_join::{Outcome, Run};
 use br_types::FileKey;
 use br_volume::Drive;
 use std::alloc::{AllocError, Global};
 use std::thread::Threads;
 
-/// Makes the next file, after those already made.
-///
-/// # Errors
-///
-/// Those of `many`, and `Memory` if memory runs out. Then no file is made.
-pub(crate) fn make_one<D: Drive>(
-    rt: &impl Threads,
-    alloc: Global,
-    many: &mut OverMany<'_, D>,
-    runs: &[Run<'_>],
-    made: &mut Vec<(FileKey, Outcome)>,
-) -> Result<(), AgainFault>
-    requires { length made.old.items < length runs.now }
-    ensures first { StayFirst many.old runs.now made.old.items made.new.items }
-    ensures more { OnOk result (length made.old.items < length made.new.items) }
-    ensures on { GoOn many.old many.new }
-    ensures failed { result ≡ Err Failed → HaveFailed many.old many.new }
-{
-    let next = &runs[made.len()];
-    let outcome = file_by(rt, alloc, many, next.key, next.path, next.hits)?;
-    push_file(made, next.key, outcome)?;
-    Ok(())
-}
-
-/// Makes the files that are left, after those already made.
-///
-/// # Errors
-///
-/// Those of `many`, and `Memory` if memory runs out. Then the files before the fault are made.
-#[tactic(auto, using(br_data::proofs::GoOnLaws::go_itself, br_data::proofs::GoOnLaws::go_more, br_data::proofs::GoOnLaws::failed_on))]
-pub(crate) fn make_left<D: Drive>(
-    rt: &impl Threads,
-    alloc: Global,
-    many: &mut OverMany<'_, D>,
-    runs: &[Run<'_>],
-    made: &mut Vec<(FileKey, Outcome)>,
-) -> Result<(), AgainFault>
-    ensures first { StayFirst many.old runs.now made.old.items made.new.items }
-    ensures all { OnOk result (length runs.now ≤ length made.new.items) }
-    ensures on { GoOn many.old many.new }
-    ensures failed { result ≡ Err Failed → HaveFailed many.old many.new }
-{
-    standing_stays();
-    while made.len() < runs.len() {
-        make_one(rt, alloc, many, runs, made)?;
-    }
-    Ok(())
-}
-
-/// Files in order of key, those of them that are made (the first ones), and the fault that ended
-/// the work, if any.
+/// Files in order of key, the first of them that are made, and the fault that ended it, if one did.
 #[derive(Drop)]
 pub(crate) struct Work<'r, 'h> {
     pub(crate) runs: &'r [Run<'h>],
@@ -98,14 +45,15 @@ impl<'r, 'h> Work<'r, 'h> {
         alloc: Global,
         many: &mut OverMany<'_, D>,
     ) -> Result<(), AgainFault>
-        ensures files { OnOk result (GivesRuns many.old self.old.runs.now → IsBegun self.old
-            → map restored self.new.made.items ≡ map file_of self.old.runs.now) }
+        ensures files { OnOk result (MakesAllIfGiven many.old self.old self.new) }
         ensures on { GoOn many.old many.new }
         ensures failed { result ≡ Err Failed → HaveFailed many.old many.new }
     {
         match self.end {
             Ok(()) => Ok(()),
-            Err(AgainFault::Failed) => make_left(rt, alloc, many, self.runs, &mut self.made),
+            Err(AgainFault::Failed) => {
+                make_left(rt, alloc, many, self.runs, &mut self.made, false)
+            }
             Err(AgainFault::Memory) => Err(AgainFault::Memory),
             Err(AgainFault::Changed) => Err(AgainFault::Changed),
         }

@@ -12,17 +12,16 @@ ghost use Rattle.br_sink.specs.declared.file_parts.PartsFault.TheVariants.{Fault
 ghost use Rattle.br_reread_parts.specs.FileParts.{PutsAlike};
 ghost use Rattle.br_reread_files.specs.FileParts.{GivesItem};
 ghost use Rattle.br_reread_parts.specs.Given.{GivesHits};
-ghost use Rattle.br_reread_files.specs.TwoFiles.{FailsAny, FailsEither, GivesKeyed, PutsAny, PutsTwo};
+ghost use Rattle.br_reread_files.specs.TwoFiles.{FailsAny, FailsEither, GivesKeyed, PutsAny, PutsTwo, files};
 
 use crate::files_once_more::made_once_more;
 use crate::light_hits::lightened;
 use crate::making::files_by;
-use crate::putting::{has_sparse_data, is_plain, put_whole};
-use crate::two_files::{KeyedItem, TwoDone, plain_run, put_two};
+use crate::putting::{has_sparse_data, plain_run, put_whole};
+use crate::two_files::{KeyedItem, TwoDone, put_two};
 use br_data::{AgainFault, OverMany, standing_stays};
 use br_join::{Item, Joiner, Outcome};
 use br_match::Hit;
-use br_records::around;
 use br_reread_parts::{PlainFile, put_plain};
 use br_sink::{PartsFault, Sink};
 use br_types::{FileKey, Names};
@@ -156,10 +155,9 @@ impl Gathered {
         ensures failed { result ≡ Err Fault → S.failures sink.old < S.failures sink.new }
         ensures on { GoOn many.old many.new }
     {
-        let (_, run, _) = around(&self.hits, key);
-        if !is_plain(item.kind, run) {
+        let Some(run) = plain_run(&self.hits, key, item) else {
             return put_whole(alloc, many, &self.hits, key, item, sink);
-        }
+        };
         put_plain(rt, alloc, many, run, item, sink)
     }
 
@@ -175,8 +173,7 @@ impl Gathered {
         other: &KeyedItem<'_>,
         sink: &mut S,
     ) -> Option<TwoDone>
-        ensures put { PutsAny result (GivesKeyed many.old self.now.hits one.now other.now) one.now.item.now other.now.item.now
-            (S.has sink.old) (S.has sink.new) }
+        ensures put { PutsAny result (GivesKeyed many.old self.now one.now other.now) (files one.now other.now) (S.has sink.old) (S.has sink.new) }
         ensures counted { S.failures sink.old ≤ S.failures sink.new }
         ensures failed { FailsAny result → S.failures sink.old < S.failures sink.new }
         ensures on { GoOn many.old many.new }
@@ -209,8 +206,7 @@ impl Gathered {
         other: &KeyedItem<'_>,
         sink: &mut S,
     ) -> TwoDone
-        ensures put { PutsTwo result (GivesKeyed many.old self.now.hits one.now other.now) one.now.item.now other.now.item.now
-            (S.has sink.old) (S.has sink.new) }
+        ensures put { PutsTwo result (GivesKeyed many.old self.now one.now other.now) (files one.now other.now) (S.has sink.old) (S.has sink.new) }
         ensures counted { S.failures sink.old ≤ S.failures sink.new }
         ensures failed { FailsEither result → S.failures sink.old < S.failures sink.new }
         ensures on { GoOn many.old many.new }
@@ -243,8 +239,7 @@ impl Gathered {
         other: &KeyedItem<'_>,
         sink: &mut S,
     ) -> TwoDone
-        ensures put { PutsTwo result (GivesKeyed many.old self.now.hits one.now other.now) one.now.item.now other.now.item.now
-            (S.has sink.old) (S.has sink.new) }
+        ensures put { PutsTwo result (GivesKeyed many.old self.now one.now other.now) (files one.now other.now) (S.has sink.old) (S.has sink.new) }
         ensures counted { S.failures sink.old ≤ S.failures sink.new }
         ensures failed { FailsEither result → S.failures sink.old < S.failures sink.new }
         ensures on { GoOn many.old many.new }

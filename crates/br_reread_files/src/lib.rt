@@ -18,7 +18,6 @@ mod made_again;
 mod making;
 mod putting;
 mod rereading;
-mod runs;
 mod sharing;
 mod two_files;
 

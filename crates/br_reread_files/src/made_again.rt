@@ -1,19 +1,15 @@
 //! A file that is made from hits; data that were let go are read again.
 ghost use Rattle.std.specs.Prelude.{◌≡◌, ◌∷◌, ◌++◌, [], map, Err, IfOk, OnErr, OnOk};
-ghost use Rattle.std.specs.List.{AllByRecursion};
-ghost use Rattle.std.specs.Option.{option_copied};
 ghost use Rattle.br_data.specs.declared.reread_fault.AgainFault.TheVariants.{Failed};
-ghost use Rattle.br_model.specs.Meaning as meaning;
 ghost use Rattle.br_reread_parts.specs.Given.{GivesHits};
 ghost use Rattle.br_join.specs.Outcome.{restored};
 ghost use Rattle.br_data.specs.ManyDrives.{GoOn, HaveFailed};
-ghost use Rattle.br_join.specs.Runs.{file_of_run};
+ghost use Rattle.br_join.specs.Runs.{file_of};
 
 use crate::digesting::digested_by;
 use br_data::{AgainFault, OverMany};
-use br_join::{Outcome, named};
-use br_match::Hit;
-use br_types::{FileKey, Path};
+use br_join::{Outcome, Run, named};
+use br_types::FileKey;
 use br_volume::Drive;
 use std::alloc::{AllocError, Global};
 use std::thread::Threads;
@@ -31,22 +27,18 @@ pub(crate) fn push_file(
     Ok(())
 }
 
-/// Makes the file with these hits, under its planned path, if it has one. Its bytes are not kept in
-/// memory.
+/// Makes the file of a run, under its planned path, if it has one. Its bytes are not in memory
+/// after that.
 pub(crate) fn file_by<D: Drive>(
     rt: &impl Threads,
     alloc: Global,
     many: &mut OverMany<'_, D>,
-    key: FileKey,
-    path: Option<&Path>,
-    hits: &[Hit],
+    run: &Run<'_>,
 ) -> Result<Outcome, AgainFault>
-    requires { AllByRecursion (λ (h : meaning.Hit). h.key ≡ key) hits.now }
-    ensures made { IfOk result (λ outcome. GivesHits many.old hits.now
-        → restored (key, outcome) ≡ file_of_run key (option_copied path.entry) hits.now) }
+    ensures made { IfOk result (λ outcome. GivesHits many.old run.now.hits → restored (run.now.key, outcome) ≡ file_of run.now) }
     ensures on { GoOn many.old many.new }
     ensures failed { result ≡ Err Failed → HaveFailed many.old many.new }
 {
-    let outcome = digested_by(rt, alloc, many, key, hits)?;
-    Ok(named(path, outcome))
+    let outcome = digested_by(rt, alloc, many, run.key, run.hits)?;
+    Ok(named(run.path, outcome))
 }

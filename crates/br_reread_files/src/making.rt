@@ -4,16 +4,15 @@ ghost use Rattle.std.specs.Option.{option_copied};
 ghost use Rattle.br_data.specs.declared.reread_fault.AgainFault.TheVariants.{Failed};
 ghost use Rattle.br_join.specs.Outcome.{restored};
 ghost use Rattle.br_records.specs.Runs.{AreListed};
-ghost use Rattle.br_join.specs.Runs.{files_of};
+ghost use Rattle.br_join.specs.Runs.{file_of, files_of};
 ghost use Rattle.br_data.specs.ManyDrives.{GoOn, HaveFailed};
 ghost use Rattle.br_reread_parts.specs.Given.{GivesHits};
-ghost use Rattle.br_reread_files.specs.Runs.{GivesRuns, file_of};
+ghost use Rattle.br_reread_files.specs.Runs.{GivesRuns};
 
-use crate::file_pairs::make_by_two;
-use crate::runs::{Run, runs_of};
+use crate::file_pairs::make_left;
 use crate::sharing::made_side_by_side;
 use br_data::{AgainFault, OverMany};
-use br_join::Outcome;
+use br_join::{Outcome, Run, runs_of};
 use br_match::Hit;
 use br_types::{FileKey, Names};
 use br_volume::Drive;
@@ -40,7 +39,7 @@ fn made_of<D: Drive + Send>(
         return made_side_by_side(rt, alloc, many, runs);
     }
     let mut made = Vec::new(alloc);
-    make_by_two(rt, alloc, many, runs, &mut made)?;
+    make_left(rt, alloc, many, runs, &mut made, true)?;
     Ok(made)
 }
 

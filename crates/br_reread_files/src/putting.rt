@@ -1,12 +1,12 @@
 //! A file that is put into a sink part by part.
-ghost use Rattle.std.specs.Prelude.{◌≡◌, ◌<◌, ◌≤◌, ◌==◌, true, false, nat_abs, Err, OnErr, OnOk};
+ghost use Rattle.std.specs.Prelude.{◌≡◌, ◌<◌, ◌≤◌, ◌==◌, true, false, nat_abs, Err, IfSome, OnErr, OnOk};
 ghost use Rattle.std.specs.List.{list_any};
 ghost use Rattle.br_model.specs.File as file;
 ghost use Rattle.br_model.specs.Meaning as meaning;
 ghost use Rattle.br_records.specs.Runs.{AreListed};
-ghost use Rattle.br_data.specs.ManyDrives.{GoOn};
+ghost use Rattle.br_data.specs.ManyDrives.{GoOn, RereadingMany};
 ghost use Rattle.br_sink.specs.declared.file_parts.PartsFault.TheVariants.{Fault};
-ghost use Rattle.br_reread_parts.specs.FileParts.{PutsAlike};
+ghost use Rattle.br_reread_parts.specs.FileParts.{GivesFile, PutsAlike};
 ghost use Rattle.br_reread_files.specs.FileParts.{GivesItem};
 
 use crate::files_once_more::item_once_more;
@@ -14,6 +14,7 @@ use crate::light_hits::SPARSE_DATA;
 use br_data::{AgainFault, OverMany};
 use br_join::Item;
 use br_match::Hit;
+use br_records::around;
 use br_sink::{PartsFault, Sink};
 use br_types::FileKey;
 use br_volume::Drive;
@@ -29,11 +30,23 @@ pub(crate) fn has_sparse_data(hits: &[Hit]) -> bool
 
 /// Returns whether a file of this type has the plain data of the hits as its bytes. Types 2 and 3
 /// have bytes.
-pub(crate) fn is_plain(kind: u32, hits: &[Hit]) -> bool
+fn is_plain(kind: u32, hits: &[Hit]) -> bool
     ensures kind { result ≡ true → file.has_bytes kind ≡ true }
     ensures none { result ≡ true → list_any (λ (h : meaning.Hit). nat_abs h.fragment.stream == 6) hits.now ≡ false }
 {
     (kind == 2 || kind == 3) && !has_sparse_data(hits)
+}
+
+/// Returns the hits with the key, if a file of the item's type has their plain data as its bytes.
+pub(crate) fn plain_run<'h>(hits: &'h [Hit], key: FileKey, item: &Item) -> Option<&'h [Hit]>
+    requires { AreListed hits.now }
+    ensures { IfSome result (λ run. (many : RereadingMany) → GivesItem many hits.now key item.now → GivesFile many run.now item.now) }
+{
+    let (_, run, _) = around(hits, key);
+    if !is_plain(item.kind, run) {
+        return None;
+    }
+    Some(run)
 }
 
 /// Makes the file once more in memory, and puts it into a sink.

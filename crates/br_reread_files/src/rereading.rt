@@ -1,11 +1,12 @@
 //! Hits whose data are read again.
-ghost use Rattle.std.specs.Prelude.{◌≡◌, ◌∷◌, ◌++◌, [], map, All, Err, IfOk, OnOk};
+ghost use Rattle.std.specs.Prelude.{◌≡◌, ◌∷◌, ◌++◌, [], All, Err, IfOk, OnOk};
 ghost use Rattle.std.specs.List.{AllByRecursion};
 ghost use Rattle.br_data.specs.declared.reread_fault.AgainFault.TheVariants.{Failed};
 ghost use Rattle.br_model.specs.Meaning as meaning;
 ghost use Rattle.br_model.specs.Restored as model;
 ghost use Rattle.br_reread_parts.specs.Given.{GivesHit, GivesHits};
 ghost use Rattle.br_join.specs.Outcome.{shown};
+ghost use Rattle.br_records.specs.Records.{fragments};
 ghost use Rattle.br_data.specs.ManyDrives.{GoOn, HaveFailed};
 
 use br_data::{AgainFault, OverMany, standing_stays};
@@ -88,8 +89,7 @@ pub(crate) fn outcome_by<D: Drive>(
     hits: &[Hit],
 ) -> Result<Outcome, AgainFault>
     requires { AllByRecursion (λ (h : meaning.Hit). h.key ≡ key) hits.now }
-    ensures made { IfOk result (λ outcome. GivesHits many.old hits.now
-        → shown outcome ≡ model.outcome_of key (map (λ (h : meaning.Hit). h.fragment) hits.now)) }
+    ensures made { IfOk result (λ outcome. GivesHits many.old hits.now → shown outcome ≡ model.outcome_of key (fragments hits.now)) }
     ensures on { GoOn many.old many.new }
     ensures failed { result ≡ Err Failed → HaveFailed many.old many.new }
 {

@@ -4,14 +4,15 @@ ghost use Rattle.std.specs.List.{AllByRecursion, AllZip};
 ghost use Rattle.br_data.specs.declared.reread_fault.AgainFault.TheVariants.{Failed};
 ghost use Rattle.br_join.specs.Outcome.{restored};
 ghost use Rattle.br_data.specs.ManyDrives.{GoesOn, GoOn, HaveFailed, driven_by};
-ghost use Rattle.br_reread_files.specs.Runs.{GivesRuns, file_of};
+ghost use Rattle.br_join.specs.Runs.{file_of};
+ghost use Rattle.br_reread_files.specs.Runs.{GivesRuns};
 ghost use Rattle.br_reread_files.specs.Sharing.{AreBegunIfGiven, EachPairAt, HasMade, drives_from_last, many_over, runs_in};
 
-use crate::file_work::{Work, finish_all, make_left};
-use crate::runs::Run;
+use crate::file_pairs::make_left;
+use crate::file_work::{Work, finish_all};
 use br_bsr::Group;
 use br_data::{AgainFault, OverMany, standing_stays};
-use br_join::Outcome;
+use br_join::{Outcome, Run};
 use br_types::FileKey;
 use br_volume::Drive;
 use std::alloc::{AllocError, Global};
@@ -19,29 +20,45 @@ use std::thread::Threads;
 use std::{mem, thread};
 
 /// Some of the files, and a drive to make them.
-struct Share<'r, 'h, D: Drive> {
+struct FileShare<'r, 'h, D: Drive> {
     drives: Vec<D>,
     work: Work<'r, 'h>,
 }
 
-impl<'r, 'h, D: Drive> Share<'r, 'h, D> {
+impl<'r, 'h, D: Drive> FileShare<'r, 'h, D> {
     /// Makes the files with the drive, until it fails.
     fn make(&mut self, rt: &impl Threads, alloc: Global, groups: &[Group])
         ensures { HasMade D.shows D.failures groups.now self.old self.new }
     {
         let taken = mem::replace(&mut self.drives, Vec::new(alloc));
         let mut many = OverMany::new(alloc, taken, groups);
-        self.work.end = make_left(rt, alloc, &mut many, self.work.runs, &mut self.work.made);
+        self.work.end = make_left(
+            rt,
+            alloc,
+            &mut many,
+            self.work.runs,
+            &mut self.work.made,
+            false,
+        );
         let none = mem::replace(&mut self.drives, many.into_drives());
         none.destroy_empty();
     }
 }
 
-/// Returns the number of bytes in the files, at most 2^64 - 1.
+/// Returns how many bytes the hits of a file have; at most 2^64 - 1 are counted.
+fn len_of(run: &Run<'_>) -> u64 {
+    let mut bytes = 0u64;
+    for hit in run.hits {
+        bytes = bytes.saturating_add(hit.data.len() as u64);
+    }
+    bytes
+}
+
+/// Returns how many bytes the files have; at most 2^64 - 1 are counted.
 fn bytes_in(runs: &[Run<'_>]) -> u64 {
     let mut bytes = 0u64;
     for run in runs {
-        bytes = bytes.saturating_add(run.bytes());
+        bytes = bytes.saturating_add(len_of(run));
     }
     bytes
 }
@@ -54,7 +71,7 @@ fn first_with(runs: &[Run<'_>], bytes: u64) -> usize
     let mut seen = 0u64;
     let mut count = 0;
     while count < runs.len() && seen < bytes {
-        seen = seen.saturating_add(runs[count].bytes());
+        seen = seen.saturating_add(len_of(&runs[count]));
         count += 1;
     }
     count
@@ -105,7 +122,7 @@ fn into_shares<'r, 'h, D: Drive>(
     alloc: Global,
     drives: &mut Vec<D>,
     works: Vec<Work<'r, 'h>>,
-    shares: &mut Vec<Share<'r, 'h, D>>,
+    shares: &mut Vec<FileShare<'r, 'h, D>>,
 ) -> Result<(), AllocError>
     requires many { length drives.old.items ≡ length works.items }
     requires none { shares.old.items ≡ [] }
@@ -113,12 +130,12 @@ fn into_shares<'r, 'h, D: Drive>(
     ensures none { OnOk result (drives.new.items ≡ []) }
     ensures room { vec_capacity drives.new ≡ vec_capacity drives.old }
     ensures drives { map (λ d. d ∷ []) drives.new.items ++ drives_from_last shares.new.items ≡ map (λ d. d ∷ []) drives.old.items }
-    ensures works { OnOk result (map (λ (s : Share D). s.work) shares.new.items ≡ works.entry.items) }
+    ensures works { OnOk result (map (λ (s : FileShare D). s.work) shares.new.items ≡ works.entry.items) }
 {
     for work in works {
         let mut own = Vec::with_capacity(alloc, 1)?;
         own.push_reserved(drives.take_last());
-        shares.push_reserved(Share { drives: own, work });
+        shares.push_reserved(FileShare { drives: own, work });
     }
     Ok(())
 }
@@ -128,7 +145,7 @@ fn run_shares<D: Drive + Send, R: Threads + Sync>(
     rt: &R,
     alloc: Global,
     groups: &[Group],
-    shares: &mut [Share<'_, '_, D>],
+    shares: &mut [FileShare<'_, '_, D>],
 )
     ensures { EachPairAt (HasMade D.shows D.failures groups.now) shares.old shares.new }
 {
@@ -144,8 +161,8 @@ fn run_all<'r, 'h, D: Drive + Send, R: Threads + Sync>(
     rt: &R,
     alloc: Global,
     groups: &[Group],
-    mut shares: Vec<Share<'r, 'h, D>>,
-) -> Vec<Share<'r, 'h, D>>
+    mut shares: Vec<FileShare<'r, 'h, D>>,
+) -> Vec<FileShare<'r, 'h, D>>
     ensures { AllZip (HasMade D.shows D.failures groups.now) shares.entry.items result.items }
 {
     run_shares(rt, alloc, groups, shares.as_mut_slice());
@@ -154,18 +171,18 @@ fn run_all<'r, 'h, D: Drive + Send, R: Threads + Sync>(
 
 /// Takes the shares apart, the last one first. Their drives go back; their works are left.
 fn out_of_shares<'r, 'h, D: Drive>(
-    mut shares: Vec<Share<'r, 'h, D>>,
+    mut shares: Vec<FileShare<'r, 'h, D>>,
     drives: &mut Vec<D>,
     works: &mut Vec<Work<'r, 'h>>,
 )
-    requires one { AllByRecursion (λ (s : Share D). length s.drives.items ≡ 1) shares.items }
+    requires one { AllByRecursion (λ (s : FileShare D). length s.drives.items ≡ 1) shares.items }
     requires none { works.old.items ≡ [] }
     requires room { (length drives.old.items + length shares.items ≤ vec_capacity drives.old) × (length shares.items ≤ vec_capacity works.old) }
     ensures drives { map (λ d. d ∷ []) drives.new.items ≡ map (λ d. d ∷ []) drives.old.items ++ drives_from_last shares.entry.items }
-    ensures works { works.new.items ≡ reverse (map (λ (s : Share D). s.work) shares.entry.items) }
+    ensures works { works.new.items ≡ reverse (map (λ (s : FileShare D). s.work) shares.entry.items) }
 {
     while !shares.is_empty() {
-        let Share {
+        let FileShare {
             drives: mut own,
             work,
         } = shares.take_last();

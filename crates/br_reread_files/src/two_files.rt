@@ -1,17 +1,11 @@
 //! Two files that are put into a sink side by side.
-ghost use Rattle.std.specs.Prelude.{◌≡◌, ◌<◌, ◌≤◌, IfSome, option_map};
-ghost use Rattle.br_records.specs.Runs.{AreListed};
-ghost use Rattle.br_data.specs.ManyDrives.{GoOn, RereadingMany};
-ghost use Rattle.br_reread_parts.specs.FileParts.{GivesFile};
+ghost use Rattle.std.specs.Prelude.{◌≡◌, ◌<◌, ◌≤◌, option_map};
+ghost use Rattle.br_data.specs.ManyDrives.{GoOn};
 ghost use Rattle.br_reread_parts.specs.TwoParts.{GivesPlain};
-ghost use Rattle.br_reread_files.specs.FileParts.{GivesItem};
-ghost use Rattle.br_reread_files.specs.TwoFiles.{FailsAny, PutsAny, done_as};
+ghost use Rattle.br_reread_files.specs.TwoFiles.{FailsAny, PutsAny, done_as, plain_files};
 
-use crate::putting::is_plain;
 use br_data::OverMany;
 use br_join::Item;
-use br_match::Hit;
-use br_records::around;
 use br_reread_parts::{PlainFile, put_two_plain};
 use br_sink::{PartsFault, Sink, TwoPut};
 use br_types::FileKey;
@@ -26,8 +20,8 @@ pub struct KeyedItem<'i> {
     pub item: &'i Item,
 }
 
-/// The files of two that were put.
-#[derive(Clone, Copy, PartialEq, Eq)]
+/// What was put of two files.
+#[derive(Clone, Copy)]
 pub enum TwoDone {
     /// Both were put.
     Both,
@@ -35,18 +29,6 @@ pub enum TwoDone {
     One(PartsFault),
     /// Neither was put.
     Neither(PartsFault),
-}
-
-/// Returns the hits with the key, if their plain data are the bytes of a file of the item's type.
-pub(crate) fn plain_run<'h>(hits: &'h [Hit], key: FileKey, item: &Item) -> Option<&'h [Hit]>
-    requires { AreListed hits.now }
-    ensures { IfSome result (λ run. (many : RereadingMany) → GivesItem many hits.now key item.now → GivesFile many run.now item.now) }
-{
-    let (_, run, _) = around(hits, key);
-    if !is_plain(item.kind, run) {
-        return None;
-    }
-    Some(run)
 }
 
 /// Returns what was put of two files.
@@ -80,7 +62,7 @@ pub(crate) fn put_two<D: Drive, S: Sink>(
     other: &PlainFile<'_, '_>,
     sink: &mut S,
 ) -> Option<TwoDone>
-    ensures put { PutsAny result (GivesPlain many.old one.now other.now) one.now.item.now other.now.item.now (S.has sink.old) (S.has sink.new) }
+    ensures put { PutsAny result (GivesPlain many.old one.now other.now) (plain_files one.now other.now) (S.has sink.old) (S.has sink.new) }
     ensures counted { S.failures sink.old ≤ S.failures sink.new }
     ensures failed { FailsAny result → S.failures sink.old < S.failures sink.new }
     ensures on { GoOn many.old many.new }

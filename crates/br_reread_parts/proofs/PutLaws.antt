@@ -1,6 +1,6 @@
 -- A file that is put part by part.
 use Rattle.std.proofs.Common.{List, Option, Result, Ok, Err}
-use Rattle.std.specs.Prelude.{OnOk}
+use Rattle.std.specs.Prelude.{OnErr, OnOk}
 use Rattle.br_model.specs.File.{Item}
 use Rattle.br_reread_parts.specs.FileParts.{PutsAlike}
 
@@ -12,3 +12,8 @@ puts_if given less item had has so puts = record { bytes = puts.bytes; alike = p
 pub ok_weaker : {A E P Q : Type 0} (r : Result A E) → (P → Q) → OnOk r P → OnOk r Q
 ok_weaker (Ok x) so p = so p
 ok_weaker (Err e) so p = tt
+
+-- what holds in any case holds for a call that was refused
+pub err_anyway : {A E P : Type 0} (r : Result A E) → P → OnErr r P
+err_anyway (Ok x) p = tt
+err_anyway (Err e) p = p

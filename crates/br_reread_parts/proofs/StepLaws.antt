@@ -8,13 +8,14 @@ use Rattle.br_data.specs.StandingHits.{StandingStays}
 use Rattle.br_join.specs.Plain.{plain_bytes}
 use Rattle.br_records.specs.Records.{fragments}
 use Rattle.br_data.specs.ManyDrives.{GoOn, RereadingMany}
-use Rattle.br_reread_parts.specs.FileParts.{WritesFew}
+use Rattle.br_sink.specs.FileParts.{WritesSome}
+use Rattle.br_reread_parts.specs.FileParts.{GivesFile, WritesFew}
 use Rattle.br_reread_parts.specs.Given.{GivesHits}
 use Rattle.br_reread_parts.specs.Steps.{OpensFile, PutsOn, Step, WritesOn, end_of, step_of}
 use Rattle.br_reread_parts.specs.Windows.{data_bytes}
 use Rattle.br_reread_parts.specs.declared.ahead.Ahead.{Ahead}
 use Rattle.br_reread_parts.proofs.GivenLaws.{hits_kept}
-use Rattle.br_reread_parts.proofs.PartLaws.{few_more, few_these}
+use Rattle.br_reread_parts.proofs.PartLaws.{few_more, few_none, few_these, some_of_few}
 use Rattle.br_reread_parts.proofs.WindowLaws.{given_both, opens}
 
 -- nothing was written
@@ -107,3 +108,26 @@ few_on m a b c x y puts few = few_more a b c puts.bytes x.left y.left puts.left 
 -- no more bytes were written than may follow
 pub few_put : (m : RereadingMany) (a b : Option (List ℕ)) (x y : Step) → PutsOn m a b x y → WritesFew x.left a b
 few_put m a b x y puts = few_these a b puts.bytes x.left y.left puts.left puts.written
+
+-- ---- a file that is read to its end
+
+-- a file that is read to its end was written
+pub whole_written : (m : RereadingMany) (a b : Option (List ℕ)) (x : Step) (read bytes : List ℕ) (left : ℕ) → x.read ≡ [] → PutsOn m a b x (end_of read left)
+    → bytes ≡ read → Appends a b bytes
+whole_written m a b x read bytes left new puts is =
+    subst (Appends a b) (sym (is ∙ puts.read ∙ ap (λ (front : List ℕ). front ++ puts.bytes) new)) puts.written
+
+-- a file of which the hits are given is the same after it is read to its end
+pub whole_same : StandingStays → (m later : RereadingMany) (hits : List Hit) (item : Item) (a b : Option (List ℕ)) (ahead : Ahead) (old read : List ℕ) (left : ℕ) → GoOn m later
+    → old ≡ [] → OpensFile m hits item ahead → PutsOn later a b (step_of old ahead) (end_of read left) → GivesFile m hits item → read ≡ item.bytes
+whole_same stays m later hits item a b ahead old read left on new opened puts given =
+    puts.read
+    ∙ ap (λ (front : List ℕ). front ++ puts.bytes) new
+    ∙ sym (append-nil puts.bytes)
+    ∙ puts.same (hits_kept stays m later ahead.rest.now on (opened.given m given.0))
+    ∙ opened.same given.0
+    ∙ sym given.1
+
+-- nothing was written of a file
+pub none_of : (wanted : List ℕ) (a : Option (List ℕ)) → WritesSome wanted a a
+none_of wanted a = some_of_few wanted (length wanted) a a refl (few_none a (length wanted))

@@ -1,22 +1,21 @@
 -- What comes of two files that are read again and written side by side.
-use Rattle.std.proofs.Common.{◌≡◌, ℕ, true, false, List, [], ◌++◌, length, Option, Some, None, Result, Ok, Err, refl, sym, ap, subst, ◌∙◌, append-nil}
+use Rattle.std.proofs.Common.{◌≡◌, ℕ, true, false, List, [], length, Option, Some, None, Result, Ok, Err, sym, subst, ◌∙◌}
 use Rattle.std.specs.Prelude.{IfOk, is_some}
-use Rattle.std.specs.Io.KnownBytes.{Appends}
 use Rattle.br_model.specs.File.{Item}
 use Rattle.br_model.specs.Meaning.{Hit}
 use Rattle.br_data.specs.StandingHits.{StandingStays}
 use Rattle.br_data.specs.ManyDrives.{GoOn, RereadingMany}
-use Rattle.br_sink.specs.FileParts.{AreAlike, WritesSome}
+use Rattle.br_sink.specs.FileParts.{AreAlike}
 use Rattle.br_sink.specs.TwoParts.{AreTwoAlike, AreTwoSame, WritesTwo}
 use Rattle.br_sink.specs.declared.file_parts.PartsFault.{PartsFault}
 use Rattle.br_sink.specs.declared.two_parts.TwoPut.{TwoPut}
 use Rattle.br_sink.specs.declared.two_parts.TwoPut.TheVariants.{Both, One, Neither}
-use Rattle.br_reread_parts.specs.FileParts.{GivesFile, WritesFew}
+use Rattle.br_reread_parts.specs.FileParts.{WritesFew}
 use Rattle.br_reread_parts.specs.Steps.{IfBoth, IfPut, OpensFile, PutsOn, Step, end_of, step_of}
 use Rattle.br_reread_parts.specs.TwoParts.{ComesOf, EndsAs, GivesTwo}
 use Rattle.br_reread_parts.specs.declared.ahead.Ahead.{Ahead}
-use Rattle.br_reread_parts.proofs.GivenLaws.{hits_kept}
-use Rattle.br_reread_parts.proofs.PartLaws.{few_none, some_of_few}
+use Rattle.br_reread_parts.proofs.PartLaws.{some_of_few}
+use Rattle.br_reread_parts.proofs.StepLaws.{whole_same, whole_written}
 
 -- what comes of the first file's bytes and of what was read of the second
 pub comes_of : (put : TwoPut) (fault : Option PartsFault) (bytes first second : List ℕ) (one other : Item) → bytes ≡ first → AreAlike bytes one.bytes
@@ -26,17 +25,11 @@ comes_of (Both x y) (Some _) bytes first second one other is alike ends = absurd
 comes_of (One x why) fault bytes first second one other is alike ends = (ends ∙ is, subst (λ (b : List ℕ). AreAlike b one.bytes) (sym ends) alike)
 comes_of (Neither why) fault bytes first second one other is alike ends = absurd ends
 
--- a file that is read to its end was written
-whole_written : (m : RereadingMany) (a b : Option (List ℕ)) (x : Step) (read bytes : List ℕ) (left : ℕ) → x.read ≡ [] → PutsOn m a b x (end_of read left)
-    → bytes ≡ read → Appends a b bytes
-whole_written m a b x read bytes left new puts is =
-    subst (Appends a b) (sym (is ∙ puts.read ∙ ap (λ (front : List ℕ). front ++ puts.bytes) new)) puts.written
-
 -- what was written of two files
 pub written_two : (put : TwoPut) (end : Result (Option PartsFault) PartsFault) (m : RereadingMany) (one other : Item) (a b c d : Option (List ℕ)) (x y : Step)
     (first second : List ℕ) (k l : ℕ) → x.read ≡ [] → y.read ≡ [] → x.left ≡ length one.bytes → y.left ≡ length other.bytes
     → IfOk end (λ _. PutsOn m a b x (end_of first k)) → IfBoth end (PutsOn m c d y (end_of second l)) → WritesFew x.left a b → WritesFew y.left c d
-    → ComesOf put end first second one other → WritesTwo one other a b c d put
+    → ComesOf put end first second one other → WritesTwo one other (a, c) (b, d) put
 written_two (Both p q) (Ok None) m one other a b c d x y first second k l new_x new_y left_x left_y puts_x puts_y few_x few_y comes = (
   whole_written m a b x first p k new_x puts_x comes.0.0,
   whole_written m c d y second q l new_y puts_y comes.1.0,
@@ -63,17 +56,6 @@ alike_two (One p why) (Ok fault) one other first second comes = comes.1
 alike_two (One p why) (Err _) one other first second comes = absurd comes
 alike_two (Neither why) end one other first second comes = tt
 
--- a file whose hits are given is the same after it is read to its end
-whole_same : StandingStays → (m later : RereadingMany) (hits : List Hit) (item : Item) (a b : Option (List ℕ)) (ahead : Ahead) (old read : List ℕ) (left : ℕ) → GoOn m later
-    → old ≡ [] → OpensFile m hits item ahead → PutsOn later a b (step_of old ahead) (end_of read left) → GivesFile m hits item → read ≡ item.bytes
-whole_same stays m later hits item a b ahead old read left on new opened puts given =
-    puts.read
-    ∙ ap (λ (front : List ℕ). front ++ puts.bytes) new
-    ∙ sym (append-nil puts.bytes)
-    ∙ puts.same (hits_kept stays m later ahead.rest.now on (opened.given m given.0))
-    ∙ opened.same given.0
-    ∙ sym given.1
-
 -- what is put has the bytes of the items, if these are given
 pub same_two : StandingStays → (put : TwoPut) (end : Result (Option PartsFault) PartsFault) (m later : RereadingMany) (hits more : List Hit) (one other : Item)
     (a b c d : Option (List ℕ)) (x y : Ahead) (r s first second : List ℕ) (k l : ℕ) → GoOn m later → r ≡ [] → s ≡ [] → OpensFile m hits one x → OpensFile m more other y
@@ -89,10 +71,6 @@ same_two stays (One p why) (Ok fault) m later hits more one other a b c d x y r 
     comes.0 ∙ whole_same stays m later hits one a b x r first k on new_x opened_x puts_x given.0
 same_two stays (One p why) (Err _) m later hits more one other a b c d x y r s first second k l on new_x new_y opened_x opened_y puts_x puts_y comes given = absurd comes
 same_two stays (Neither why) end m later hits more one other a b c d x y r s first second k l on new_x new_y opened_x opened_y puts_x puts_y comes given = tt
-
--- nothing was written of a file
-pub none_of : (wanted : List ℕ) (a : Option (List ℕ)) → WritesSome wanted a a
-none_of wanted a = some_of_few wanted (length wanted) a a refl (few_none a (length wanted))
 
 -- if the second file did not fail, what follows for both holds
 pub both_of : {P : Type 0} (fault : Option PartsFault) → false ≡ is_some fault → IfBoth (Ok fault) P → P

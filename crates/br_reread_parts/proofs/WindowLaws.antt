@@ -35,19 +35,6 @@ pub opens : (hits window rest : List Hit) (found : List ℕ) → window ++ rest 
 opens hits window rest found joined is =
     ap (λ (bytes : List ℕ). bytes ++ plain_bytes (fragments rest)) is ∙ sym (plain_both window rest) ∙ ap (λ (hs : List Hit). plain_bytes (fragments hs)) joined
 
--- a window that is written is followed by the next one
-pub follows : (rest window behind : List Hit) (read found next all : List ℕ) → window ++ behind ≡ rest → next ≡ plain_bytes (fragments window)
-    → read ++ (found ++ plain_bytes (fragments rest)) ≡ all → (read ++ found) ++ (next ++ plain_bytes (fragments behind)) ≡ all
-follows rest window behind read found next all joined is before =
-    append_assoc read found (next ++ plain_bytes (fragments behind)) ∙ ap (λ (bytes : List ℕ). read ++ (found ++ bytes)) (opens rest window behind next joined is) ∙ before
-
--- if no hit is left, what is written with the last window is all
-pub ends : (rest : List Hit) (read found all : List ℕ) → rest ≡ [] → read ++ (found ++ plain_bytes (fragments rest)) ≡ all → read ++ found ≡ all
-ends rest read found all none before =
-    ap (λ (bytes : List ℕ). read ++ bytes) (sym (append-nil found))
-    ∙ sym (ap (λ (hs : List Hit). read ++ (found ++ plain_bytes (fragments hs))) none)
-    ∙ before
-
 -- without hits
 pub none_left : (hits : List Hit) → length hits ≡ 0 → hits ≡ []
 none_left [] none = refl

@@ -1,5 +1,5 @@
--- A file whose plain data are read again and written, one hit after another.
-use Rattle.std.specs.Prelude.{◌≡◌, ℕ, ◌+◌, ◌≤◌, List, [], ◌∷◌, ◌++◌, length, Option}
+-- A file of which the plain data are read again and written, one hit after another.
+use Rattle.std.specs.Prelude.{◌≡◌, ℕ, ◌≤◌, List, [], ◌∷◌, length, Option}
 use Rattle.std.specs.Io.KnownBytes.{Appends}
 use Rattle.br_model.specs.File.{Item}
 use Rattle.br_model.specs.Meaning.{Hit}
@@ -9,20 +9,12 @@ use Rattle.br_data.specs.ManyDrives.{RereadingMany}
 use Rattle.br_sink.specs.FileParts.{AreAlike, with_bytes}
 use Rattle.br_sink.specs.Sink.{HasMore}
 use Rattle.br_reread_parts.specs.Given.{GivesHits}
-use Rattle.br_reread_parts.specs.Windows.{data_bytes}
-use Rattle.br_reread_parts.specs.declared.file_parts.Begun.{Begun}
 
 -- the hits are read again as they were found, and their plain data are the bytes of the file
 abbrev pub GivesFile : RereadingMany → List Hit → Item → Type 0
 GivesFile many hits item = GivesHits many hits × (item.bytes ≡ plain_bytes (fragments hits))
 
--- the next data were digested and written, and the number of bytes that may follow is less by these
-pub record PutsWindow (before after : Option (List ℕ)) (old new : Begun) : Type 0 where
-  pub read : new.read ≡ old.read ++ data_bytes old.window.items
-  pub left : new.left + length (data_bytes old.window.items) ≡ old.left
-  pub written : Appends before after (data_bytes old.window.items)
-
--- some bytes were written, at most this number
+-- some bytes were written, so many at most
 pub record WritesFew (most : ℕ) (before after : Option (List ℕ)) : Type 0 where
   pub bytes : List ℕ
   pub few : length bytes ≤ most

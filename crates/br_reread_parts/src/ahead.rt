@@ -6,7 +6,7 @@ ghost use Rattle.br_reread_parts.specs.FileParts.{WritesFew};
 ghost use Rattle.br_reread_parts.specs.Steps.{EndsOn, OpensFile, PutsOn, PutsRest, WritesOn, end_of, step_of};
 ghost use Rattle.br_reread_parts.specs.Windows.{data_bytes};
 
-use crate::file_parts::{read_window, write_and_read, write_window};
+use crate::file_windows::{read_window, write_window};
 use crate::likeness::are_alike;
 use crate::windows::{PUT, cut_window, digest_window, share_window};
 use br_data::{Data, OverMany, Reading, standing_stays};
@@ -56,7 +56,8 @@ pub(crate) fn open_file<'h, D: Drive>(
 ///
 /// # Errors
 ///
-/// As `write_and_read`.
+/// As `write_window` and `read_window`.
+#[tactic(auto, using(br_data::proofs::GoOnLaws::go_itself))]
 pub(crate) fn write_ahead<D: Drive, W: Write>(
     many: &mut OverMany<'_, D>,
     ahead: &mut Ahead<'_>,
@@ -67,14 +68,8 @@ pub(crate) fn write_ahead<D: Drive, W: Write>(
     ensures on { GoOn many.old many.new }
 {
     let next = cut_window(ahead.rest, PUT);
-    let read = write_and_read(
-        ahead.alloc,
-        many,
-        &mut ahead.left,
-        &ahead.window,
-        next.window,
-        writer,
-    )?;
+    write_window(&mut ahead.left, &ahead.window, writer)?;
+    let read = read_window(ahead.alloc, many, next.window)?;
     ahead.window = read;
     ahead.rest = next.rest;
     Ok(())

@@ -4,6 +4,7 @@
 mod ahead;
 mod both;
 mod file_parts;
+mod file_windows;
 mod likeness;
 mod putting;
 mod streams;

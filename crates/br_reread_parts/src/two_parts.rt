@@ -1,7 +1,7 @@
 //! Reads the data of two files again, side by side, while both are put.
 ghost use Rattle.std.specs.Prelude.{◌≡◌, None, Ok};
 ghost use Rattle.br_data.specs.ManyDrives.{GoOn};
-ghost use Rattle.br_sink.specs.TwoParts.{AreTwoAlike, AreTwoSame, WritesTwo};
+ghost use Rattle.br_sink.specs.TwoParts.{AreTwoAlike, AreTwoSame, WritesTwo, held_by};
 ghost use Rattle.br_reread_parts.specs.TwoParts.{ComesOf, EndsAs, GivesTwo};
 
 use crate::ahead::finish;
@@ -128,8 +128,7 @@ impl<'h, 'b, D: Drive, R: Threads> BothParts<'h, 'b, D, R> {
         first: &mut W,
         second: &mut W,
     ) -> TwoPut
-        ensures written { WritesTwo one.now other.now (W.contents first.old) (W.contents first.new) (W.contents second.old)
-            (W.contents second.new) result }
+        ensures written { WritesTwo one.now other.now (held_by W.contents first.old second.old) (held_by W.contents first.new second.new) result }
         ensures alike { AreTwoAlike one.now other.now result }
         ensures same { GivesTwo self.old.many self.old.one.now self.old.other.now one.now other.now → AreTwoSame one.now other.now result }
         ensures on { GoOn self.old.many self.new.many }
@@ -172,6 +171,7 @@ impl<'h, 'b, D: Drive, R: Threads> TwoParts for BothParts<'h, 'b, D, R> {
         first: &mut W,
         second: &mut W,
     ) -> TwoPut {
+        // `write_two` is proved by its own clauses, from which those of the trait follow.
         self.write_two(one, other, first, second)
     }
 

@@ -25,7 +25,7 @@ only_16 files n e = elim (chosen (are_linked_back [] files && ltb (length files)
     not_ok h = absurd cc
 
 pub order_refused : (files : List ToSave) (key : SessionKey) (limit : ℕ) (places : List Place) (starts : List (List ℕ × ℕ)) (e : SessionFault)
-    → checked_order files ≡ Err (fault_number e) → IsOutcome files key limit places starts (Err e)
+    → checked_order files ≡ Err (fault_number e) → IsOutcome files key limit (places, starts) (Err e)
 order_refused files key limit places starts Memory h = absurd (omega (arith, only_16 files 1 h))
 order_refused files key limit places starts TooLarge h = absurd (omega (arith, only_16 files 15 h))
 order_refused files key limit places starts BadFileOrder h = h
@@ -34,7 +34,7 @@ order_refused files key limit places starts BadRow h = absurd (omega (arith, onl
 
 pub spans_refused : (files : List ToSave) (key : SessionKey) (limit : ℕ) (places : List Place) (starts : List (List ℕ × ℕ)) (blocks : List (List ℕ)) (e : SessionFault)
     → checked_order files ≡ Ok files → ArePacked limit key (session_records files) blocks → IsRefusal (cause e) (checked_spans starts (visits places blocks))
-    → IsOutcome files key limit places starts (Err e)
+    → IsOutcome files key limit (places, starts) (Err e)
 spans_refused files key limit places starts blocks Memory ordered packed h = ordered
 spans_refused files key limit places starts blocks TooLarge ordered packed h = absurd (omega (arith, spans_only_42 starts (visits places blocks) 15 h))
 spans_refused files key limit places starts blocks BadFileOrder ordered packed h = absurd (omega (arith, spans_only_42 starts (visits places blocks) 16 h))

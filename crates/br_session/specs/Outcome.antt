@@ -16,15 +16,15 @@ pub record AreSpansRefused (files : List ToSave) (key : SessionKey) (limit : ℕ
   pub packed : ArePacked limit key (session_records files) blocks
   pub refused : checked_spans starts (visits places blocks) ≡ Err 42
 
--- Files in order are written, unless memory runs out or their spans are refused. Else their order
--- is refused.
-abbrev pub IsOutcome : List ToSave → SessionKey → ℕ → List Place → List (List ℕ × ℕ) → Result Written SessionFault → Type 0
-IsOutcome files key limit places starts (Ok written) = (checked_order files ≡ Ok files) × IsWritten files key limit places starts written
-IsOutcome files key limit places starts (Err Memory) = checked_order files ≡ Ok files
-IsOutcome files key limit places starts (Err BadFileOrder) = checked_order files ≡ Err 16
-IsOutcome files key limit places starts (Err BadRow) = (checked_order files ≡ Ok files) × AreSpansRefused files key limit places starts
-IsOutcome files key limit places starts (Err TooLarge) = ⊥
-IsOutcome files key limit places starts (Err BadSavedFile) = ⊥
+-- Files in order are written to places over volumes of given lengths, unless memory runs out or
+-- their spans are refused. Else their order is refused.
+abbrev pub IsOutcome : List ToSave → SessionKey → ℕ → List Place × List (List ℕ × ℕ) → Result Written SessionFault → Type 0
+IsOutcome files key limit (places, starts) (Ok written) = (checked_order files ≡ Ok files) × IsWritten files key limit places starts written
+IsOutcome files key limit (places, starts) (Err Memory) = checked_order files ≡ Ok files
+IsOutcome files key limit (places, starts) (Err BadFileOrder) = checked_order files ≡ Err 16
+IsOutcome files key limit (places, starts) (Err BadRow) = (checked_order files ≡ Ok files) × AreSpansRefused files key limit places starts
+IsOutcome files key limit (places, starts) (Err TooLarge) = ⊥
+IsOutcome files key limit (places, starts) (Err BadSavedFile) = ⊥
 
 -- Append the blocks to volumes that consist of whole blocks and have the given lengths. Then they,
 -- and all volumes that extend them, hold each job of the session with these files and any

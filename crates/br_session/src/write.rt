@@ -60,7 +60,7 @@ pub fn write_session(
     requires bounds { IsBlockLimit limit }
     requires places { ArePlaces places.now }
     requires some_place { places.now ≡ [] → files.now ≡ [] }
-    ensures outcome { IsOutcome files.now session limit places.now starts.now result }
+    ensures outcome { IsOutcome files.now session limit (places.now, starts.now) result }
     ensures holds { IfOk result (λ written. SessionHolds files.now session places.now starts.now written) }
 {
     written_sessions_hold();

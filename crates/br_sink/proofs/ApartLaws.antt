@@ -1,5 +1,5 @@
 -- What is kept if files whose paths conflict are left out.
-use Rattle.std.proofs.Common.{◌≡◌, ℕ, zero, suc, ◌+◌, ◌<◌, Bool, true, false, not, ◌&&◌, cond, List, [], ◌∷◌, ◌++◌, length, take, drop, map, refl, ap, sym, subst, ◌∙◌, arith, append_assoc, append-nil, length-append, get_or, Option, Some, None, Result, Ok, Err}
+use Rattle.std.proofs.Common.{◌≡◌, ℕ, zero, suc, ◌+◌, ◌<◌, Bool, true, false, not, ◌&&◌, cond, List, [], ◌∷◌, ◌++◌, length, take, drop, map, refl, ap, sym, subst, ◌∙◌, arith, append_assoc, append-nil, length-append, get_or, Option, Some, None, Ok, Err}
 use Rattle.std.specs.Prelude.{filter_map}
 use Rattle.std.specs.List.{items_where_true, list_any}
 use Rattle.std.proofs.lemmas.List.{take_more}
@@ -13,6 +13,7 @@ use Rattle.br_types.specs.Conflicts.{Noted}
 use Rattle.br_types.specs.declared.conflicts.Ways.{Ways}
 use Rattle.br_sink.specs.ConflictsApart.{ApartStayWhole, IsKept, KeptAreApart, apart, apart_beside, conflicts, conflicts_beside, is_free, wanted_of, with_path}
 use Rattle.br_sink.proofs.LeavingLaws.{where_true_both}
+use Rattle.br_sink.proofs.DeliveryLaws.{free_first}
 
 -- ---- one outcome
 
@@ -91,10 +92,6 @@ pub kept_are_apart_lem : KeptAreApart
 kept_are_apart_lem rs = kept_put [] rs
 
 -- ---- nothing is left out of files that do not conflict
-
-free_first : (b : Bool) (s : Stop) (r : Result (Unit {0}) Stop) → cond b (Err s) r ≡ Ok tt → (b ≡ false) × (r ≡ Ok tt)
-free_first true s r h = absurd cc
-free_first false s r h = (refl, h)
 
 put_first : (paths : List (List ℕ)) (item : Item) (items : List Item) → put_behind paths (item ∷ items) ≡ Ok tt
     → (way paths item ≡ false) × (put_behind (item.path ∷ paths) items ≡ Ok tt)

@@ -1,9 +1,9 @@
 -- Deliveries up to a file, and at it.
-use Rattle.std.proofs.Common.{◌≡◌, ℕ, zero, suc, ◌+◌, ◌<◌, ◌≤◌, Bool, true, false, not, cond, List, [], ◌∷◌, ◌++◌, length, take, drop, map, refl, ap, sym, subst, ◌∙◌, arith, append_assoc, Option, Some, None, Result, Ok, Err, get_or, length-append, append-nil, add-zero, ◌⊎◌, inl, inr}
+use Rattle.std.proofs.Common.{◌≡◌, ℕ, ◌+◌, ◌<◌, ◌≤◌, Bool, true, false, not, cond, List, [], ◌∷◌, ◌++◌, length, take, drop, map, refl, ap, sym, subst, ◌∙◌, arith, append_assoc, Option, Some, None, Result, Ok, Err, get_or, length-append, append-nil, add-zero, ◌⊎◌, inl, inr}
 use Rattle.std.specs.Prelude.{filter_map}
 use Rattle.std.specs.List.{list_any}
-use Rattle.std.proofs.Math.Seq.{take-append_seam}
-use Rattle.std.proofs.lemmas.List.{take_more, take-append-drop}
+use Rattle.std.proofs.Math.Seq.{take-append_seam, take-length}
+use Rattle.std.proofs.lemmas.List.{take_more, take-append-drop, take-append-le}
 use Rattle.br_model.specs.Answer.{◌>>=◌, IsRefusal}
 use Rattle.br_model.specs.Name.{FileKey}
 use Rattle.br_model.specs.File as model
@@ -38,7 +38,7 @@ behind_one_more paths (first ∷ items) item = behind_one_more (first.path ∷ p
 abbrev stop_at : List (List ℕ) → Stop
 stop_at paths = record { number = 81; done = length paths }
 
-free_first : (b : Bool) (s : Stop) (r : Result (Unit {0}) Stop) → cond b (Err s) r ≡ Ok tt → (b ≡ false) × (r ≡ Ok tt)
+pub free_first : (b : Bool) (s : Stop) (r : Result (Unit {0}) Stop) → cond b (Err s) r ≡ Ok tt → (b ≡ false) × (r ≡ Ok tt)
 free_first true s r h = absurd cc
 free_first false s r h = (refl, h)
 
@@ -66,14 +66,6 @@ stopped_at items more item apart way =
     put_more [] items (item ∷ more) apart
     ∙ ap (λ b. cond b (Err (stop_at (paths_behind [] items))) (put_behind (item.path ∷ paths_behind [] items) more)) way
     ∙ ap (λ (n : ℕ). Err (record { number = 81; done = n })) (length_behind [] items ∙ (omega arith))
-
-take_within : {X : Type 0} (xs ys : List X) (n : ℕ) → n ≤ length xs → take n (xs ++ ys) ≡ take n xs
-take_within xs ys zero few = refl
-take_within [] ys (suc n) few = absurd (omega (arith, few))
-take_within (x ∷ xs) ys (suc n) few = ap (λ (zs : List _). x ∷ zs) (take_within xs ys n (omega (arith, few)))
-
-take_whole : {X : Type 0} (xs : List X) → take (length xs) xs ≡ xs
-take_whole xs = ap (take (length xs)) (sym (append-nil xs)) ∙ take-append_seam xs []
 
 -- ---- the files among outcomes
 
@@ -214,7 +206,7 @@ memory_stop (item ∷ items) some = record {
 pub taken_items : (os : List (FileKey × Outcome)) (place n : ℕ) → n ≤ length (items_in (take place os)) → take n (items_in os) ≡ take n (items_in (take place os))
 taken_items os place n few =
     let front : List model.Item = items_in (take place os) in
-    ap (take n) (ap items_in (sym (take-append-drop place os)) ∙ items_of_both (take place os) (drop place os)) ∙ take_within front (items_in (drop place os)) n few
+    ap (take n) (ap items_in (sym (take-append-drop place os)) ∙ items_of_both (take place os) (drop place os)) ∙ take-append-le n front (items_in (drop place os)) few
 
 -- of all outcomes there are no fewer files
 pub fewer_items : (os : List (FileKey × Outcome)) (place : ℕ) → length (items_in (take place os)) ≤ length (items_in os)
@@ -249,7 +241,7 @@ module _ (os : List (FileKey × Outcome)) (place files : ℕ) (stands : StandApa
       files_taken : take files (items_in os) ≡ items_in (take place os)
       files_taken =
           ap (λ (n : ℕ). take n (items_in os)) stands.many ∙ taken_items os place (length (items_in (take place os))) (omega arith)
-          ∙ take_whole (items_in (take place os))
+          ∙ take-length (items_in (take place os))
 
   pub in_the_way_is : place < length os → IsStopIn (items_in os) (record { number = 81; done = files })
   in_the_way_is more = record {

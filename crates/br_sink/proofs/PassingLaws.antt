@@ -17,6 +17,7 @@ use Rattle.br_sink.proofs.DeliveryLaws.{items_of_both, none_more}
 use Rattle.br_sink.specs.KeepGoing.{AreNoted, IsFileAt, Leaves, NotesStop, Takes}
 use Rattle.br_sink.specs.declared.left_out.Noted.{Noted}
 use Rattle.br_sink.proofs.LeavingLaws.{notes_more, notes_out}
+use Rattle.std.proofs.Math.Seq.{take-add, take-append-add, take-length, take-nil}
 
 -- ---- at the file where a sink stopped
 
@@ -64,16 +65,8 @@ fault_noted start had has earlier later before after item Failed (Err e) same co
 -- ---- the outcomes that come next
 
 pub rest_is : {X : Type 0} (place : ℕ) (xs : List X) → take (length xs - place) (drop place xs) ≡ drop place xs
-rest_is zero xs = let all : length xs - 0 ≡ length xs = omega arith in ap (λ (k : ℕ). take k xs) all ∙ whole xs
-  where
-    whole : {X : Type 0} (xs : List X) → take (length xs) xs ≡ xs
-    whole [] = refl
-    whole (x ∷ xs) = ap (λ (ys : List _). x ∷ ys) (whole xs)
-rest_is (suc place) [] = none _
-  where
-    none : {X : Type 0} (n : ℕ) → ◌≡◌ {A = List X} (take n []) []
-    none zero = refl
-    none (suc n) = refl
+rest_is zero xs = let all : length xs - 0 ≡ length xs = omega arith in ap (λ (k : ℕ). take k xs) all ∙ take-length xs
+rest_is (suc place) [] = take-nil _
 rest_is (suc place) (x ∷ xs) =
     let less : length (x ∷ xs) - suc place ≡ length xs - place = omega arith in
     ap (λ (k : ℕ). take k (drop place xs)) less ∙ rest_is place xs
@@ -84,28 +77,9 @@ length_left zero xs few = omega arith
 length_left (suc place) [] few = absurd (omega (arith, few))
 length_left (suc place) (x ∷ xs) few = let more = length_left place xs (omega (arith, few)) in omega (arith, more)
 
-pub take_both : {X : Type 0} (a n : ℕ) (xs : List X) → take (a + n) xs ≡ take a xs ++ take n (drop a xs)
-take_both zero n xs = ap (λ (k : ℕ). take k xs) (omega arith)
-take_both (suc a) n [] =
-    let more : suc a + n ≡ suc (a + n) = omega arith in
-    ap (λ (k : ℕ). take k []) more ∙ sym (take_none n)
-  where
-    take_none : {X : Type 0} (n : ℕ) → ◌≡◌ {A = List X} (take n []) []
-    take_none zero = refl
-    take_none (suc n) = refl
-take_both (suc a) n (x ∷ xs) =
-    let more : suc a + n ≡ suc (a + n) = omega arith in
-    ap (λ (k : ℕ). take k (x ∷ xs)) more ∙ ap (λ (ys : List _). x ∷ ys) (take_both a n xs)
-
-take_behind : {X : Type 0} (xs ys : List X) (n : ℕ) → take (length xs + n) (xs ++ ys) ≡ xs ++ take n ys
-take_behind [] ys n = ap (λ (k : ℕ). take k ys) (omega arith)
-take_behind (x ∷ xs) ys n =
-    let more : length (x ∷ xs) + n ≡ suc (length xs + n) = omega arith in
-    ap (λ (k : ℕ). take k (x ∷ (xs ++ ys))) more ∙ ap (λ (zs : List _). x ∷ zs) (take_behind xs ys n)
-
 -- the files of some more
 pub items_next : (os : List (FileKey × Outcome)) (place n : ℕ) → items_in (take (place + n) os) ≡ items_in (take place os) ++ items_in (take n (drop place os))
-items_next os place n = ap items_in (take_both place n os) ∙ items_of_both (take place os) (take n (drop place os))
+items_next os place n = ap items_in (take-add place n os) ∙ items_of_both (take place os) (take n (drop place os))
 
 -- all files
 pub items_parted : (os : List (FileKey × Outcome)) (place : ℕ) → items_in os ≡ items_in (take place os) ++ items_in (drop place os)
@@ -115,7 +89,7 @@ items_parted os place = ap items_in (sym (take-append-drop place os)) ∙ items_
 pub items_stopped : (os : List (FileKey × Outcome)) (place done : ℕ)
     → take (length (items_in (take place os)) + done) (items_in os) ≡ items_in (take place os) ++ take done (items_in (drop place os))
 items_stopped os place done =
-    ap (take (length (items_in (take place os)) + done)) (items_parted os place) ∙ take_behind (items_in (take place os)) (items_in (drop place os)) done
+    ap (take (length (items_in (take place os)) + done)) (items_parted os place) ∙ take-append-add (items_in (take place os)) (items_in (drop place os)) done
 
 pub stop_below : (os : List (FileKey × Outcome)) (place number done : ℕ) → IsStopBelow (length (items_in (drop place os))) (record { number = number; done = done })
     → IsStopBelow (length (items_in os)) (record { number = number; done = length (items_in (take place os)) + done })
@@ -125,7 +99,7 @@ stop_below os place number done below =
 
 -- ---- the files among outcomes
 
-counted : (rs : List Restored) → count_by (λ (r : Restored). is_ok r.outcome) rs ≡ length (filter_map item_of rs)
+pub counted : (rs : List Restored) → count_by (λ (r : Restored). is_ok r.outcome) rs ≡ length (filter_map item_of rs)
 counted [] = refl
 counted (r ∷ rs) = sum_by-cons (λ (r : Restored). cond (is_ok r.outcome) 1 0) r rs ∙ go r.outcome refl (counted rs)
   where

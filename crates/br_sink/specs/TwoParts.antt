@@ -8,12 +8,15 @@ use Rattle.br_sink.specs.declared.file_parts.PartsFault.TheVariants as parts
 use Rattle.br_sink.specs.declared.two_parts.TwoPut.{TwoPut}
 use Rattle.br_sink.specs.declared.two_parts.TwoPut.TheVariants.{Both, One, Neither}
 
--- What was written of two files: all bytes of a file that was put, else at most as many bytes as
--- the file has.
-abbrev pub WritesTwo : Item → Item → Option (List ℕ) → Option (List ℕ) → Option (List ℕ) → Option (List ℕ) → TwoPut → Type 0
-WritesTwo one other a b c d (Both x y) = Appends a b x × Appends c d y
-WritesTwo one other a b c d (One x why) = Appends a b x × WritesSome other.bytes c d
-WritesTwo one other a b c d (Neither why) = WritesSome one.bytes a b × WritesSome other.bytes c d
+-- what two writers hold, if they tell it
+abbrev pub held_by : {W : Type 0} → (W → Option (List ℕ)) → W → W → Option (List ℕ) × Option (List ℕ)
+held_by contents first second = (contents first, contents second)
+
+-- What was written of two files: all bytes of one that was put, and of one that was not some bytes, as many as it has at most.
+abbrev pub WritesTwo : Item → Item → Option (List ℕ) × Option (List ℕ) → Option (List ℕ) × Option (List ℕ) → TwoPut → Type 0
+WritesTwo one other before after (Both x y) = Appends before.0 after.0 x × Appends before.1 after.1 y
+WritesTwo one other before after (One x why) = Appends before.0 after.0 x × WritesSome other.bytes before.1 after.1
+WritesTwo one other before after (Neither why) = WritesSome one.bytes before.0 after.0 × WritesSome other.bytes before.1 after.1
 
 -- each file that was put has as many bytes as were found, with the same digest
 abbrev pub AreTwoAlike : Item → Item → TwoPut → Type 0

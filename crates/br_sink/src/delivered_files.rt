@@ -10,33 +10,37 @@ use std::marker::Model;
 
 /// Files, in their order.
 #[derive(Drop)]
-pub(crate) struct Files {
-    pub(crate) ghost items: { List model.Item },
+pub struct DeliveredFiles {
+    pub ghost items: { List model.Item },
 }
 
-impl Model for Files {
+impl Model for DeliveredFiles {
     ghost also_owns = { λ _. ftrue };
 }
 
-impl Files {
+impl DeliveredFiles {
     /// Returns no files.
-    pub(crate) fn none() -> Files
+    pub fn none() -> DeliveredFiles
         ensures { result.items ≡ [] }
     {
-        Files {}
+        DeliveredFiles {}
     }
 
     /// Returns these files and one more.
-    pub(crate) fn and(_before: &Files, _item: &Item) -> Files
+    pub fn and(_before: &DeliveredFiles, _item: &Item) -> DeliveredFiles
         ensures { result.items ≡ _before.now.items ++ _item.now ∷ [] }
     {
-        Files {}
+        DeliveredFiles {}
     }
 
     /// Returns these files and one more, the item with these bytes.
-    pub(crate) fn and_with(_before: &Files, _item: &Item, _bytes: &FileBytes) -> Files
+    pub(crate) fn and_with(
+        _before: &DeliveredFiles,
+        _item: &Item,
+        _bytes: &FileBytes,
+    ) -> DeliveredFiles
         ensures { result.items ≡ _before.now.items ++ with_bytes _item.now _bytes.now ∷ [] }
     {
-        Files {}
+        DeliveredFiles {}
     }
 }

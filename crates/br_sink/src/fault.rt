@@ -7,8 +7,8 @@ use std::alloc::AllocError;
 use std::marker::Model;
 use thiserror::Error;
 
-/// The reason why a sink did not take a file.
-#[derive(Clone, Copy, Debug, PartialEq, Eq, Error)]
+/// Why a sink did not take a file.
+#[derive(Clone, Copy, Debug, Error)]
 pub enum SinkFault {
     #[error("out of memory")]
     Memory,
@@ -36,8 +36,8 @@ impl From<AllocError> for SinkFault {
     }
 }
 
-/// The reason why a delivery stopped at a file.
-#[derive(Clone, Copy, Debug, PartialEq, Eq, Error)]
+/// Why a delivery stopped at a file.
+#[derive(Clone, Copy, Debug, Error)]
 pub enum StopCause {
     #[error("out of memory")]
     Memory,

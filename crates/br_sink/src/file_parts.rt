@@ -13,7 +13,7 @@ use std::io::Write;
 use thiserror::Error;
 
 /// The reason why a file was not put part by part.
-#[derive(Clone, Copy, Debug, PartialEq, Eq, Error)]
+#[derive(Clone, Copy, Debug, Error)]
 pub enum PartsFault {
     #[error("out of memory")]
     Memory,

@@ -5,7 +5,7 @@ ghost use Rattle.br_sink.specs.FileParts.{with_bytes};
 ghost use Rattle.br_sink.specs.TwoParts.{two_put};
 ghost use Rattle.br_sink.specs.KeepGoing.{IsFileAt, Leaves, Takes};
 
-use crate::delivered_files::Files;
+use crate::delivered_files::DeliveredFiles;
 use crate::two_parts::TwoPut;
 use br_join::{FileBytes, Item, Outcome};
 use br_types::{FileKey, Path};
@@ -15,18 +15,18 @@ use std::alloc::{AllocError, Global};
 #[derive(Drop)]
 pub(crate) struct Noted {
     alloc: Global,
-    taken: Files,
-    left: Files,
+    taken: DeliveredFiles,
+    left: DeliveredFiles,
     paths: Vec<Path>,
 }
 
 /// Adds the files among the outcomes to others.
-fn add_files(files: &mut Files, outcomes: &[(FileKey, Outcome)])
+fn add_files(files: &mut DeliveredFiles, outcomes: &[(FileKey, Outcome)])
     ensures { files.new.items ≡ files.old.items ++ items_in outcomes.now }
 {
     for (_, outcome) in outcomes {
         if let Outcome::File(item) = outcome {
-            *files = Files::and(files, item);
+            *files = DeliveredFiles::and(files, item);
         }
     }
 }
@@ -59,8 +59,8 @@ impl Noted {
     {
         Noted {
             alloc,
-            taken: Files::none(),
-            left: Files::none(),
+            taken: DeliveredFiles::none(),
+            left: DeliveredFiles::none(),
             paths: Vec::new(alloc),
         }
     }
@@ -83,14 +83,14 @@ impl Noted {
     pub(crate) fn take_one(&mut self, item: &Item)
         ensures { Takes self.old self.new (item.now ∷ []) }
     {
-        self.taken = Files::and(&self.taken, item);
+        self.taken = DeliveredFiles::and(&self.taken, item);
     }
 
     /// Notes that a file with these bytes was taken.
     fn take_with(&mut self, item: &Item, bytes: &FileBytes)
         ensures { Takes self.old self.new (with_bytes item.now bytes.now ∷ []) }
     {
-        self.taken = Files::and_with(&self.taken, item, bytes);
+        self.taken = DeliveredFiles::and_with(&self.taken, item, bytes);
     }
 
     /// Notes which of two files were taken.
@@ -116,8 +116,8 @@ impl Noted {
         ensures none { OnErr result (Takes self.old self.new []) }
     {
         self.paths.push(item.path.copy(self.alloc)?)?;
-        self.taken = Files::and(&self.taken, item);
-        self.left = Files::and(&self.left, item);
+        self.taken = DeliveredFiles::and(&self.taken, item);
+        self.left = DeliveredFiles::and(&self.left, item);
         Ok(())
     }
 }

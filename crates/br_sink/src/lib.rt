@@ -31,6 +31,7 @@ mod two_parts;
 pub use apart_laws::{apart_stay_whole, kept_are_apart};
 pub use br_join::Item;
 pub use conflicts_apart::{Apart, keep_apart};
+pub use delivered_files::DeliveredFiles;
 pub use delivery::{deliver, stand_apart};
 pub use fault::{SinkFault, SinkStop, StopCause};
 pub use file_parts::{Parts, PartsFault};

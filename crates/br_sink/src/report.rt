@@ -6,8 +6,8 @@ use br_join::Outcome;
 use br_types::FileKey;
 use std::marker::Model;
 
-/// The totals of a restore.
-#[derive(Clone, Copy, PartialEq, Eq)]
+/// How a restore ended.
+#[derive(Clone, Copy)]
 pub struct Report {
     /// The number of files.
     pub files: u64,

@@ -1,7 +1,7 @@
 //! Two files whose bytes are read again, side by side, while both are put.
 ghost use Rattle.std.specs.Prelude.{◌≡◌};
 ghost use Rattle.br_model.specs.File as model;
-ghost use Rattle.br_sink.specs.TwoParts.{AreTwoAlike, AreTwoSame, WritesTwo, why_of};
+ghost use Rattle.br_sink.specs.TwoParts.{AreTwoAlike, AreTwoSame, WritesTwo, held_by, why_of};
 
 use crate::file_parts::PartsFault;
 use br_join::{FileBytes, Item};
@@ -55,8 +55,7 @@ pub trait TwoParts {
         first: &mut W,
         second: &mut W,
     ) -> TwoPut
-        ensures written { WritesTwo one.now other.now (W.contents first.old) (W.contents first.new) (W.contents second.old)
-            (W.contents second.new) result }
+        ensures written { WritesTwo one.now other.now (held_by W.contents first.old second.old) (held_by W.contents first.new second.new) result }
         ensures alike { AreTwoAlike one.now other.now result }
         ensures same { gives self.old one.now other.now → AreTwoSame one.now other.now result }
         ensures on { goes_on self.old self.new };

@@ -193,7 +193,7 @@ both_finished root i j first first_now second second_now (Some a) (Some c) (Some
 -- the first is finished
 
 first_written : (one other : Item) (first first_now second second_now : Option (List ℕ)) (written : TwoPut) (x : List ℕ)
-    → WritesTwo one other first first_now second second_now written → first_of written ≡ Some x → Appends first first_now x
+    → WritesTwo one other (first, second) (first_now, second_now) written → first_of written ≡ Some x → Appends first first_now x
 first_written one other first first_now second second_now (Both z y) x writes is =
     let same : z ≡ x = cc in subst (Appends first first_now) same writes.0
 first_written one other first first_now second second_now (One z why) x writes is =
@@ -218,13 +218,13 @@ first_finished root one other bytes first first_now second (Some a) (Some c) (So
     still_whole root one bytes d e (set_own one (Some (Bytes bytes)) c d set) (changes one away)
 
 whole_left : (root : List ℕ) (one other : Item) (first first_now second second_now : Option (List ℕ)) (c e : Option Nodes)
-    (written result : TwoPut) → WritesTwo one other first first_now second second_now written → PutsAtMost written result
+    (written result : TwoPut) → WritesTwo one other (first, second) (first_now, second_now) written → PutsAtMost written result
     → ClosesTwo root (root ++ one.path) (root ++ other.path) first_now second_now c e result → has_bytes one.kind ≡ true
     → has_bytes other.kind ≡ true → (a : Option Nodes) → MakesTwo root (root ++ one.path) (root ++ other.path) first second a c
     → LeavesTwo root one other a e result
 whole_left root one other first first_now second second_now c e written (Both x y) writes is (d, done, over) has also a made =
-    let more : WritesTwo one other first first_now second second_now (Both x y) =
-    subst (WritesTwo one other first first_now second second_now) is writes in
+    let more : WritesTwo one other (first, second) (first_now, second_now) (Both x y) =
+    subst (WritesTwo one other (first, second) (first_now, second_now)) is writes in
     both_finished root (with_bytes one x) (with_bytes other y) first first_now second second_now a c d e has also
     (two_open root (root ++ one.path) (root ++ other.path) first second a c made) more.0 more.1 done over
 whole_left root one other first first_now second second_now c e written (One x why) writes is (d, done, changes) has also a made =
@@ -235,7 +235,7 @@ whole_left root one other first first_now second second_now c e written (Neither
 
 pub two_left : {W : Type 0} (root : List ℕ) (one other : Item) (new also_new : NewFile W) (first first_now second second_now : Option (List ℕ))
     (c e : Option Nodes) (written result : TwoPut) → IsNewBelow root one.path new → IsNewBelow root other.path also_new
-    → WritesTwo one other first first_now second second_now written → PutsAtMost written result
+    → WritesTwo one other (first, second) (first_now, second_now) written → PutsAtMost written result
     → ClosesTwo root (string_bytes new.path) (string_bytes also_new.path) first_now second_now c e result → has_bytes one.kind ≡ true
     → has_bytes other.kind ≡ true → (a : Option Nodes)
     → MakesTwo root (string_bytes new.path) (string_bytes also_new.path) first second a c → LeavesTwo root one other a e result

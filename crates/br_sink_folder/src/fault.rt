@@ -5,8 +5,8 @@ ghost use Rattle.br_sink_folder.specs.declared.fault.FolderFault.TheVariants.{Me
 use std::alloc::AllocError;
 use thiserror::Error;
 
-/// The reason why there is no sink over a folder.
-#[derive(Clone, Copy, Debug, PartialEq, Eq, Error)]
+/// Why there is no sink over a folder.
+#[derive(Clone, Copy, Debug, Error)]
 pub enum FolderFault {
     #[error("out of memory")]
     Memory,

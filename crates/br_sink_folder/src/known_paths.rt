@@ -1,10 +1,10 @@
 //! The paths of the files of a delivery, and of the folders on their way.
-ghost use Rattle.std.specs.Prelude.{◌≡◌, ◌++◌, ◌∷◌, [], List, ℕ, bytes_eq, IfOk, OnOk};
-ghost use Rattle.br_types.specs.Conflicts.{AddsPaths, goes_on_behind, has_path};
+ghost use Rattle.std.specs.Prelude.{◌≡◌, ◌++◌, ◌∷◌, [], List, ℕ, IfOk, OnOk};
+ghost use Rattle.br_types.specs.Conflicts.{AddsPaths, has_path};
 ghost use Rattle.br_sink_folder.specs.OtherPaths.{Has, is_other, is_on_way, paths_in};
 
 use br_join::Outcome;
-use br_types::FileKey;
+use br_types::{FileKey, add_folders, add_path};
 use std::alloc::{AllocError, Global};
 use std::collections::BTreeSet;
 
@@ -14,35 +14,13 @@ pub struct Known<'p> {
     paths: BTreeSet<&'p [u8]>,
 }
 
-/// Adds one path to a set.
-fn add<'p>(set: &mut BTreeSet<&'p [u8]>, path: &'p [u8]) -> Result<(), AllocError>
-    ensures { OnOk result (AddsPaths (bytes_eq path.now) (has_path (λ k. k.now) set.old) (has_path (λ k. k.now) set.new)) }
-{
-    match set.insert(path) {
-        Ok(_) => Ok(()),
-        Err(refused) => Err(AllocError::from(refused)),
-    }
-}
-
-/// Adds what comes before each slash of the path.
-fn add_folders<'p>(set: &mut BTreeSet<&'p [u8]>, path: &'p [u8]) -> Result<(), AllocError>
-    ensures { OnOk result (AddsPaths (λ q. goes_on_behind q path.now) (has_path (λ k. k.now) set.old) (has_path (λ k. k.now) set.new)) }
-{
-    for (i, byte) in path.iter().enumerate() {
-        if *byte == b'/' {
-            add(set, &path[..i])?;
-        }
-    }
-    Ok(())
-}
-
 /// Adds the path of a file, and those of the folders on its way.
 #[tactic(auto, using(crate::proofs::OtherLaws::file_added))]
 fn add_file<'p>(set: &mut BTreeSet<&'p [u8]>, path: &'p [u8]) -> Result<(), AllocError>
     ensures { OnOk result (AddsPaths (λ q. is_on_way q path.now) (has_path (λ k. k.now) set.old) (has_path (λ k. k.now) set.new)) }
 {
     add_folders(set, path)?;
-    add(set, path)
+    add_path(set, path)
 }
 
 impl<'p> Known<'p> {

@@ -12,7 +12,7 @@ use std::{fs, io};
 /// delivery nor a folder on the way to one. Each path is the one below the folder, and begins with
 /// `/`.
 #[derive(Drop)]
-struct Walk<'p> {
+struct FolderWalk<'p> {
     known: Known<'p>,
     folders: Vec<String>,
     others: Vec<String>,
@@ -25,7 +25,7 @@ fn joined(alloc: Global, first: &str, second: &str) -> io::Result<String> {
     Ok(path)
 }
 
-impl<'p> Walk<'p> {
+impl<'p> FolderWalk<'p> {
     /// Takes what is at a path: names it, or keeps it for listing if it is a folder on the way to a
     /// file.
     fn take(&mut self, path: String, is_folder: bool) -> io::Result<()> {
@@ -70,7 +70,7 @@ pub fn others_in<F: Files + Drop>(
     root: &str,
     outcomes: &[(FileKey, Outcome)],
 ) -> io::Result<Vec<String>> {
-    let mut walk = Walk {
+    let mut walk = FolderWalk {
         known: known_of(alloc, outcomes)?,
         folders: Vec::new(alloc),
         others: Vec::new(alloc),

@@ -98,6 +98,7 @@ impl<M: FileMaker + Drop> Resuming<M> {
 impl<M: ManyWriter + Comparer + Drop> Sink for Resuming<M> {
     ghost use Rattle.br_sink_folder.specs.FolderSink.{told};
 
+    // A folder tells no files, so `put` and `refused` below hold of every call. They repeat the trait's clauses.
     ghost has = { λ _. told };
 
     ghost failures = { λ s. s.folder.failures };

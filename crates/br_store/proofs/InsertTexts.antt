@@ -6,8 +6,8 @@ use Rattle.sqlite.specs.Term.{Term, lit, col}
 use Rattle.sqlite_resolve.specs.Compile.{first}
 use Rattle.sqlite_resolve.specs.Write.{cells_from}
 use Rattle.sqlite_tied.specs.Compute.{everything}
-use Rattle.br_store.specs.declared.names.Dictionary.{Dictionary}
-use Rattle.br_store.specs.declared.names.Dictionary.TheVariants.{Client, FileSet, Media, Path}
+use Rattle.br_store.specs.declared.name_numbers.Dictionary.{Dictionary}
+use Rattle.br_store.specs.declared.name_numbers.Dictionary.TheVariants.{Client, FileSet, Media, Path}
 use Rattle.br_catalog_rows.specs.TreePlaces.{Layout}
 use Rattle.br_catalog_rows.specs.Tables.{version, client, fileset, media, path, job, job_media, file, version_columns, client_columns, fileset_columns, media_columns, path_columns, job_columns, job_media_columns, file_columns}
 use Rattle.br_catalog_rows.specs.KnownSchemas.{HasAll, Owns, with_own}

@@ -11,7 +11,7 @@ use Rattle.br_store.specs.Look.{alone}
 use Rattle.br_store.specs.LookFolded.{IsFolded}
 
 -- the log was clean if it is now, and the other file is the same
-clean_before : (now before db : Bool) → (IsTrue now → IsTrue before) → IsTrue (now && db) → IsTrue (before && db)
+pub clean_before : (now before db : Bool) → (IsTrue now → IsTrue before) → IsTrue (now && db) → IsTrue (before && db)
 clean_before true true db falls clean = clean
 clean_before true false db falls clean = let never : IsTrue false = falls refl in absurd cc
 clean_before false before db falls clean = absurd cc

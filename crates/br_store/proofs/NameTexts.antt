@@ -12,8 +12,8 @@ use Rattle.sqlite_resolve.specs.Lowering.{chosen, first_found, nothing}
 use Rattle.sqlite_resolve.specs.Compare.{compared, affinity_of, of_column, converted, spelled}
 use Rattle.sqlite_resolve.specs.Program.{program}
 use Rattle.sqlite_tied.specs.Compute.{everything}
-use Rattle.br_store.specs.declared.names.Dictionary.{Dictionary}
-use Rattle.br_store.specs.declared.names.Dictionary.TheVariants.{Client, FileSet, Media, Path}
+use Rattle.br_store.specs.declared.name_numbers.Dictionary.{Dictionary}
+use Rattle.br_store.specs.declared.name_numbers.Dictionary.TheVariants.{Client, FileSet, Media, Path}
 use Rattle.br_catalog_rows.specs.TreePlaces.{Layout}
 use Rattle.br_catalog_rows.specs.Tables.{column, key_column, client, fileset, media, path}
 use Rattle.br_catalog_rows.specs.KnownSchemas.{HasAll, Owns, with_own}

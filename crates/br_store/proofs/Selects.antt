@@ -1,5 +1,5 @@
 -- What a plain SELECT in a transaction leaves and shows.
-use Rattle.std.proofs.Common.{◌≡◌, ◌⊎◌, inl, inr, ℕ, ◌-◌, ◌^◌, nat_le, slice_get, unwrap_or, pos, List, Option, IfSome, [], ◌∷◌, map, Bool, true, false, ◌&&◌, cond, None, Some, refl, sym, ap, subst, ◌∙◌}
+use Rattle.std.proofs.Common.{◌≡◌, ◌⊎◌, inl, inr, ℕ, ◌-◌, ◌^◌, nat_le, slice_get, unwrap_or, pos, List, Option, IfSome, [], ◌∷◌, Bool, true, false, ◌&&◌, cond, None, Some, refl, sym, ap, subst, ◌∙◌}
 use Rattle.sqlite.specs.declared.types.Value.TheVariants.{Null, Int}
 use Rattle.sqlite.specs.Order.{Row, column}
 use Rattle.sqlite.specs.Query.{Query, IsAnswer, Output, output}
@@ -17,7 +17,7 @@ use Rattle.sqlite_trees.proofs.ListLemmas.{all-permutation, all-flat_map}
 use Rattle.br_catalog_rows.specs.TreePlaces.{Layout}
 use Rattle.br_store.specs.Held.{IsName, IsNumberAt, IsNumberOf, layout_in}
 use Rattle.br_store.specs.Names.{tree_of, word}
-use Rattle.br_store.specs.declared.names.Dictionary.{Dictionary}
+use Rattle.br_store.specs.declared.name_numbers.Dictionary.{Dictionary}
 use Rattle.br_store.proofs.Values.{word_tied}
 use Rattle.br_store.proofs.NameTexts.{name_query}
 use Rattle.sqlite.specs.Schema.{Schema}
@@ -27,6 +27,7 @@ use Rattle.sqlite.specs.Listing.{understood, reads_listing}
 use Rattle.sqlite.specs.Clock.{timed}
 use Rattle.sqlite.specs.State.{State, KeepsCommit, IsUnchanged, IsRolledBack, Fails, IsNotRun, FailsToQuery, FailsToShow, IsTooLate, ShowsRows, Shown}
 use Rattle.sqlite.proofs.Callers.{IsPlain, command_of, reads_as}
+use Rattle.br_model.proofs.ListLaws.{all_map}
 
 pub unchanged_keeps : (old new : State) → IsUnchanged old new → KeepsCommit old new
 unchanged_keeps old new h = record { was_open = λ _. h.0.was_open; committed = λ _. h.0.committed_is }
@@ -71,10 +72,6 @@ not_over trees tree = go (nat_le (2 ^ 31) tree)
     go true = refl
     go false = refl
 
-all-map : {X Y : Type 0} (P : Y → Type 0) (f : X → Y) (xs : List X) → AllByRecursion (λ x. P (f x)) xs → AllByRecursion P (map f xs)
-all-map P f [] h = tt
-all-map P f (x ∷ xs) h = (h.0, all-map P f xs h.1)
-
 -- each row of the answer is that of a row with the name
 found_one : (l : Layout) (trees : Trees) (d : Dictionary) (name : List ℕ) (row : Row) → Has (trees (tree_of l d)) row
     → AllByRecursion (λ env. IsNumberAt l trees d name (output (name_query (tree_of l d)) env).1)
@@ -95,9 +92,9 @@ numbers_read l trees d name rows a =
     let look = λ (row : Row). cond (list_all (holds ((word d name ∷ []) ∷ row ∷ [])) q.filter) (((word d name ∷ []) ∷ row ∷ []) ∷ []) [] in
     let matched = all-flat_map P look (trees (tree_of l d)) (all_from _ (trees (tree_of l d)) (λ row has. found_one l trees d name row has)) in
     let staged : AllByRecursion P a.staged = subst (AllByRecursion P) (sym a.grouped) matched in
-    let kept : AllByRecursion Q a.kept = subst (AllByRecursion Q) (sym a.distinct) (all-map Q (output q) a.staged staged) in
+    let kept : AllByRecursion Q a.kept = subst (AllByRecursion Q) (sym a.distinct) (all_map Q (output q) a.staged staged) in
     let ordered = all-permutation Q a.kept a.ordered a.same kept in
-    subst (AllByRecursion (IsNumberAt l trees d name)) (sym a.shown) (all-map (IsNumberAt l trees d name) (λ (o : Output). o.1) a.ordered ordered)
+    subst (AllByRecursion (IsNumberAt l trees d name)) (sym a.shown) (all_map (IsNumberAt l trees d name) (λ (o : Output). o.1) a.ordered ordered)
 
 pub numbers_found : (trees : Trees) (d : Dictionary) (name : List ℕ) (rows : List Row) → IsAnswer (name_query (tree_of (layout_in trees) d)) (overlay trees []) (word d name ∷ []) rows
     → AllByRecursion (IsNumberOf trees d name) rows

@@ -14,8 +14,8 @@ use Rattle.sqlite_value.proofs.OrderLemmas.{value_cmp-Text, value_cmp-Blob, valu
 use Rattle.std.proofs.lemmas.Cmp.{tied_itself}
 use Rattle.br_store.specs.Held.{is_named}
 use Rattle.br_store.specs.Names.{word}
-use Rattle.br_store.specs.declared.names.Dictionary.{Dictionary}
-use Rattle.br_store.specs.declared.names.Dictionary.TheVariants.{Client, FileSet, Media, Path}
+use Rattle.br_store.specs.declared.name_numbers.Dictionary.{Dictionary}
+use Rattle.br_store.specs.declared.name_numbers.Dictionary.TheVariants.{Client, FileSet, Media, Path}
 use Rattle.sqlite_value.proofs.KeyLemmas.{class_tied}
 
 if_true : (nulls : Bool) (o : Ordering) → is_true (cond nulls Null (from_truth (Some (is_eq o)))) ≡ true → o ≡ Equal

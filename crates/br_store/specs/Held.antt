@@ -19,9 +19,9 @@ use Rattle.sqlite.specs.Held.{Held, state}
 use Rattle.sqlite_trees.specs.declared.store.Store.{Ghosts}
 use Rattle.br_model.specs.Job.{JobRow, Span}
 use Rattle.br_catalog_rows.specs.Inserted.{IsNewIn}
-use Rattle.br_store.specs.declared.names.Dictionary.{Dictionary}
-use Rattle.br_store.specs.declared.names.Dictionary.TheVariants.{Client, FileSet, Media, Path}
-use Rattle.br_store.specs.declared.write.Parts.{Parts}
+use Rattle.br_store.specs.declared.name_numbers.Dictionary.{Dictionary}
+use Rattle.br_store.specs.declared.name_numbers.Dictionary.TheVariants.{Client, FileSet, Media, Path}
+use Rattle.br_store.specs.declared.job_writing.PathParts.{PathParts}
 use Rattle.br_store.specs.Names.{tree_of, word}
 use Rattle.br_catalog_rows.specs.Rows.{Rows, with_file_row, with_job, with_spans}
 use Rattle.sqlite_trees.specs.Objects.{catalog_tree, number_in}
@@ -213,7 +213,7 @@ WritesSpanOf job span media old new result =
 
 -- the row of a file is written if the call does not fail, and this is the number of the
 -- front of its path
-abbrev pub WritesFileOf : {A E : Type 0} → ℕ → ℕ → Parts → List ℕ → List ℕ → State → State → Result A E → Type 0
+abbrev pub WritesFileOf : {A E : Type 0} → ℕ → ℕ → PathParts → List ℕ → List ℕ → State → State → Result A E → Type 0
 WritesFileOf job index parts lstat digest old new result =
     (front : List ℕ) → IsName old.now.trees Path front parts.path
     → OnOk result (Writes (with_file_row (file_cells job index front parts.rest.now lstat digest)) old new)

@@ -3,8 +3,8 @@ use Rattle.std.specs.Prelude.{ℕ, ℤ, List, [], ◌∷◌, codes}
 use Rattle.sqlite.specs.declared.types.Value.{Value}
 use Rattle.sqlite.specs.declared.types.Value.TheVariants.{Null, Int, Text, Blob}
 use Rattle.sqlite.specs.Order.{Row}
-use Rattle.br_store.specs.declared.names.Dictionary.{Dictionary}
-use Rattle.br_store.specs.declared.names.Dictionary.TheVariants.{Client, FileSet, Media, Path}
+use Rattle.br_store.specs.declared.name_numbers.Dictionary.{Dictionary}
+use Rattle.br_store.specs.declared.name_numbers.Dictionary.TheVariants.{Client, FileSet, Media, Path}
 use Rattle.br_catalog_rows.specs.TreePlaces.{Layout}
 
 -- the tree that holds the table

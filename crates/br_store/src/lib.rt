@@ -10,12 +10,14 @@
 //! crash may leave.
 //!
 //! `look` copies the file of a catalogue into memory and opens the copy as a database, so that
-//! nothing is written or made. `Sight` is the trait for what it needs of the system: `HostSight` is
-//! the system's, as thin as possible, and `MemSight` one over memory, for tests. `fold` ends the
-//! use of a catalogue that was written to: its file alone has what was committed.
+//! nothing is written or made. `Sight` is what it needs of the system: `HostSight` is that of the
+//! system, as thin as it can be, and `MemSight` one over memory, for tests. `fold` ends the use of
+//! a catalogue that was written to: its file alone has what was committed. `emptied` is the last
+//! step of it.
 #![tactic(auto)]
 
 mod crash_laws;
+mod job_writing;
 mod laws;
 mod look_beside;
 mod look_fault;
@@ -24,23 +26,21 @@ mod look_folding;
 mod look_host;
 mod look_mem;
 mod look_sight;
-mod names;
+mod name_numbers;
 mod opening;
 mod queries;
-mod reads;
 mod store;
 mod stored_jobs;
 mod tables;
 mod version;
-mod write;
 
 pub use br_catalog_rows::{StoreFault, inserted_jobs_load};
 pub use crash_laws::commits_outlive_crashes;
 pub use look_beside::Beside;
 pub use look_fault::LookFault;
 pub use look_file::look;
-pub use look_folding::fold;
-pub use look_host::{HostFile, HostSight};
+pub use look_folding::{emptied, fold};
+pub use look_host::{HostSight, SystemFile};
 pub use look_mem::MemSight;
 pub use look_sight::{Sight, Stamp};
 pub use opening::{create, reopened};

@@ -1,5 +1,5 @@
-/// What lies beside the file of a database and may contain changes that are not in the file.
-#[derive(Clone, Copy, PartialEq, Eq)]
+/// What lies beside the file of a database, of what was not put into it.
+#[derive(Clone, Copy)]
 pub enum Beside {
     /// No file with the name of a journal or a log, or one without changes for the file.
     Nothing,

@@ -26,7 +26,11 @@ pub fn fold<D: Disk + Drop>(conn: Connection<FileStore<D>>) -> Result<Files<D>, 
 }
 
 /// Empties the log.
-fn emptied<D: Disk + Drop>(files: Files<D>) -> Result<Files<D>, LookFault>
+///
+/// # Errors
+///
+/// `Unreadable` if the log was not emptied.
+pub fn emptied<D: Disk + Drop>(files: Files<D>) -> Result<Files<D>, LookFault>
     requires usable { IsTrue (D.Disk.is_usable files.log) }
     ensures log { IfOk result (λ left. D.Disk.seen left.log ≡ []) }
     ensures clean { IfOk result (λ left. IsTrue (D.Disk.is_clean left.log) → IsTrue (D.Disk.is_clean files.log)) }

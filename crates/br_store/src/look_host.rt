@@ -27,7 +27,7 @@ pub struct HostSight<'r> {
 
 /// An open file of the system.
 #[derive(Drop)]
-pub struct HostFile {
+pub struct SystemFile {
     file: File,
 }
 
@@ -93,11 +93,11 @@ impl<'r> HostSight<'r> {
 impl Sight for HostSight<'_> {
     ghost use Rattle.std.specs.Prelude.{None};
 
-    type File = HostFile;
+    type File = SystemFile;
 
     ghost told = { λ _. None };
 
-    fn open(&mut self) -> Result<HostFile, LookFault> {
+    fn open(&mut self) -> Result<SystemFile, LookFault> {
         let path = self.path.as_str();
         // A pipe is not opened, because that would wait for its writer.
         let named = fs::symlink_metadata(self.rt, path)?;
@@ -109,10 +109,10 @@ impl Sight for HostSight<'_> {
         if !is_plain(&found) || found.dev() != named.dev() || found.ino() != named.ino() {
             return Err(LookFault::InUse);
         }
-        Ok(HostFile { file })
+        Ok(SystemFile { file })
     }
 
-    fn beside(&mut self, _file: &HostFile) -> Result<Beside, LookFault> {
+    fn beside(&mut self, _file: &SystemFile) -> Result<Beside, LookFault> {
         let (alloc, path) = (self.rt.alloc(), self.path.as_str());
         if has_journal(self.rt, format!(in alloc; "{path}-journal")?.as_str())? {
             return Ok(Beside::Journal);
@@ -123,7 +123,7 @@ impl Sight for HostSight<'_> {
         Ok(Beside::Nothing)
     }
 
-    fn stamp(&mut self, file: &HostFile) -> Result<Stamp, LookFault> {
+    fn stamp(&mut self, file: &SystemFile) -> Result<Stamp, LookFault> {
         let found = file.file.metadata()?;
         Ok(Stamp {
             len: found.len(),
@@ -133,7 +133,12 @@ impl Sight for HostSight<'_> {
         })
     }
 
-    fn read_at(&mut self, file: &HostFile, buf: &mut [u8], at: usize) -> Result<usize, LookFault> {
+    fn read_at(
+        &mut self,
+        file: &SystemFile,
+        buf: &mut [u8],
+        at: usize,
+    ) -> Result<usize, LookFault> {
         Ok(file.file.read_at(buf, at as u64)?)
     }
 

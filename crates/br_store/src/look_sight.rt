@@ -4,8 +4,8 @@ ghost use Rattle.br_store.specs.Scene.{Scene};
 use crate::look_beside::Beside;
 use crate::look_fault::LookFault;
 
-/// The length of a file, and the values that show whether it was changed.
-#[derive(Clone, Copy, PartialEq, Eq)]
+/// The length of a file, and by which it is known whether it was changed.
+#[derive(Clone, Copy, PartialEq)]
 pub struct Stamp {
     pub len: u64,
     /// The file's number on its device.

@@ -12,9 +12,9 @@ ghost use Rattle.br_store.specs.Calls.{MayCommit, OnCleanDisk, WhileClean};
 ghost use Rattle.br_store.specs.Held.{IsCatalogue, HasTables, rows_in};
 ghost use Rattle.br_store.specs.Made.{Finds, IsOpenFault, is_first};
 
+use crate::job_writing::write_job;
 use crate::opening::opened_or_made;
 use crate::queries::{read, ready};
-use crate::write::write_job;
 use br_catalog_rows::{StoreFault, history_of};
 use br_history::{History, JobRows};
 use sqlite::{Alter, Connection, Error};

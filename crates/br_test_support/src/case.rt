@@ -193,17 +193,6 @@ impl Case {
         }
     }
 
-    /// Reads a byte.
-    pub fn u8_of(&mut self, field: &str) -> u8 {
-        match field.parse::<u8>() {
-            Ok(number) => number,
-            Err(_fault) => {
-                self.fail("a field is no byte");
-                0
-            }
-        }
-    }
-
     /// Reads the index of a file.
     pub fn index_of(&mut self, field: &str) -> Option<FileIndex> {
         let index = FileIndex::new(self.u32_of(field));

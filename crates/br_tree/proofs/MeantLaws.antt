@@ -1,6 +1,6 @@
 -- What a pattern means, path by path.
 use Rattle.std.proofs.Common.{◌≡◌, ℕ, Bool, true, false, not, ◌&&◌, ◌||◌, cond, List, [], ◌∷◌, ◌++◌, length, map, filter, Some, None, Ok, Err, refl, sym, ap, subst, ◌∙◌, append_assoc, append-nil, length-append, arith}
-use Rattle.std.proofs.lemmas.Bool.{both_ways, and_parts, and_from, false_from_ne_true}
+use Rattle.std.proofs.lemmas.Bool.{both_ways, and_parts, and_from, false_from_ne_true, or_left, or_right}
 use Rattle.std.proofs.lemmas.Slice.Eq.{bytes_eq-Decides}
 use Rattle.std.specs.Prelude.{Contains, bytes_eq, drop}
 use Rattle.std.specs.List.{AllByRecursion, list_any}
@@ -12,7 +12,7 @@ use Rattle.br_model.specs.Console.{begins_with, is_below, child_of, children, ma
 use Rattle.br_model.proofs.ListLaws.{none_in, first_in, cons_not_empty, to_each, some_passes, from_some, contains_filter, kept_passes, contains_map, from_image}
 use Rattle.br_model.proofs.OrderLaws.{in_order_from, in_order_has_each}
 use Rattle.br_tree.specs.Walk.{is_own, is_picked}
-use Rattle.br_tree.proofs.MatchLaws.{either_way, or_left, or_right, or_cases}
+use Rattle.br_tree.proofs.MatchLaws.{either_way, or_cases}
 use Rattle.br_tree.proofs.PartLaws.{part, behind, part_splits, part_whole, part_of_front, part_again, part_directory, last_later}
 use Rattle.br_tree.proofs.RunLaws.{begins_to, begins_from, child_is, drop_front}
 

@@ -1,9 +1,8 @@
 -- Runs of paths in order.
-use Rattle.std.proofs.Common.{◌≡◌, ℕ, zero, suc, ◌+◌, ◌-◌, ◌<◌, ◌≤◌, Bool, true, false, eqb, List, [], ◌∷◌, ◌++◌, length, get_or, map, take, drop, refl, sym, ap, subst, ◌∙◌, inl, inr, arith}
+use Rattle.std.proofs.Common.{◌≡◌, ℕ, zero, suc, ◌+◌, ◌-◌, ◌≤◌, Bool, true, false, eqb, List, [], ◌∷◌, ◌++◌, length, get_or, map, take, drop, refl, sym, ap, subst, ◌∙◌, inl, inr, arith}
 use Rattle.std.proofs.lemmas.Bool.{both_ways, cases_order, false_from_ne_true, eqb-true, eq-eqb}
 use Rattle.std.proofs.lemmas.List.{drop-drop}
 use Rattle.std.proofs.lemmas.Slice.Eq.{bytes_eq-Decides, starts_is}
-use Rattle.std.proofs.lemmas.List.Elements.{All-from_recursion}
 use Rattle.std.specs.Prelude.{bytes_eq}
 use Rattle.std.specs.Bool.{Decides}
 use Rattle.std.specs.List.{AllByRecursion, AllWithin}
@@ -21,6 +20,7 @@ use Rattle.br_view.specs.Shown.{shown_pair}
 use Rattle.br_tree.specs.Walk.{Pair, seen_paths, first_part, IsRising, IsRun, AllPassing, NonePassing}
 use Rattle.br_tree.proofs.FlagLaws.{Below, Rises, view_rises}
 use Rattle.br_tree.proofs.PartLaws.{part, part_is, parts_rise, same_front, front_first, between}
+use Rattle.br_view.proofs.FindLaws.{at_places}
 
 -- ---- paths that rise
 
@@ -82,12 +82,6 @@ rising_take (suc n) [] h = tt
 rising_take (suc n) (p ∷ ps) h = (all_taken (Below p) n ps h.0, rising_take n ps h.1)
 
 -- ---- searching by halves
-
-at_places : {X : Type 0} (R : X → X → Type 0) (xs : List X) → EachPair R xs → (i j : ℕ) (d : X) → i < j → j < length xs → R (get_or xs i d) (get_or xs j d)
-at_places R [] h i j d below lt = absurd (omega arith)
-at_places R (x ∷ xs) h i zero d below lt = absurd (omega arith)
-at_places R (x ∷ xs) h zero (suc j) d below lt = All-from_recursion (R x) xs h.0 j d (omega arith)
-at_places R (x ∷ xs) h (suc i) (suc j) d below lt = at_places R xs h.1 i j d (omega arith) (omega arith)
 
 -- what passes for a later path passes for an earlier one
 abbrev pub Falls : (List ℕ → Bool) → List ℕ → List ℕ → Type 0

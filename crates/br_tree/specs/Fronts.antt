@@ -2,8 +2,8 @@
 use Rattle.std.specs.Prelude.{◌≡◌, ℕ, ◌≤◌, true, false, List, ◌∷◌, length}
 use Rattle.std.specs.List.{list_any}
 use Rattle.br_model.specs.Console.{matches, tails}
-use Rattle.br_tree.specs.declared.pattern.Front.{Front}
-use Rattle.br_tree.specs.declared.pattern.Front.TheVariants.{Whole, Never, Star}
+use Rattle.br_tree.specs.declared.pattern.FrontMatch.{FrontMatch}
+use Rattle.br_tree.specs.declared.pattern.FrontMatch.TheVariants.{Whole, Never, Star}
 
 -- a pattern and a name lead to their rests: the pattern matches the name exactly if the rests
 -- match, and if the pattern matches some end of the name, the rest does so, too
@@ -14,7 +14,7 @@ pub record LeadsTo (pattern name left behind : List ℕ) : Type 0 where
   pub no_longer : length behind ≤ length name
 
 -- whether the pattern matches, or the rests to which it leads
-abbrev pub IsFront : Front → List ℕ → List ℕ → Type 0
+abbrev pub IsFront : FrontMatch → List ℕ → List ℕ → Type 0
 IsFront Whole pattern name = matches pattern name ≡ true
 IsFront Never pattern name = matches pattern name ≡ false
 IsFront (Star left behind) pattern name = LeadsTo pattern name (42 ∷ left.now) behind.now

@@ -1,8 +1,8 @@
 ghost use Rattle.std.specs.Prelude.{◌≡◌};
 ghost use Rattle.br_tree.specs.Change.{flag_of};
 
-/// The effect of a change on the marks of the paths that are meant.
-#[derive(Clone, Copy, PartialEq, Eq)]
+/// What a change does to the marks of the paths that are meant.
+#[derive(Clone, Copy)]
 pub(crate) enum Change {
     /// It sets them.
     Mark,

@@ -1,8 +1,8 @@
 ghost use Rattle.std.specs.Prelude.{◌≡◌};
 ghost use Rattle.br_tree.specs.Seen.{sign_byte};
 
-/// Whether a name of a directory is marked, or something below it.
-#[derive(Clone, Copy, PartialEq, Eq)]
+/// Says whether a name of a directory is marked, or something below it.
+#[derive(Clone, Copy)]
 pub enum Sign {
     /// Its own path is marked.
     Marked,

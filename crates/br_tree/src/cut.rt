@@ -2,7 +2,7 @@ ghost use Rattle.std.specs.Prelude.{◌≡◌, true};
 ghost use Rattle.br_tree.specs.Cut.{passes, IsFalling, IsCut};
 ghost use Rattle.br_tree.specs.Walk.{seen_paths, AllPassing, NonePassing};
 
-use crate::run::{Shown, child_name};
+use crate::shown_paths::{Shown, child_name};
 use br_types::Path;
 
 /// A test that the first paths of a list pass, and no later one.

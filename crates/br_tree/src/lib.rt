@@ -5,18 +5,20 @@
 
 mod change;
 mod child;
+mod child_names;
 mod cut;
 mod flags;
 mod list;
-mod names;
+mod path_spans;
 mod pattern;
-mod run;
+mod shown_paths;
 mod sign;
-mod spans;
 mod sums;
 mod tree;
-mod walk;
+mod tree_walk;
 
 pub use child::{Child, Sign};
+pub use list::{flag_at, keep_if, pair_at};
 pub use pattern::{bare_name, matches};
+pub use shown_paths::Shown;
 pub use tree::Tree;

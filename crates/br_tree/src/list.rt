@@ -4,7 +4,7 @@ ghost use Rattle.br_tree.specs.Lists.{kept, found_in, found_if, last_part};
 ghost use Rattle.br_tree.specs.Seen.{seen_path};
 
 use crate::pattern::{bare_name, matches as fits};
-use crate::run::{Shown, slash_in};
+use crate::shown_paths::{Shown, slash_in};
 use br_types::Path;
 use br_view::Entry;
 use std::alloc::{AllocError, Global};
@@ -36,7 +36,7 @@ fn last_name(path: &[u8]) -> &[u8]
 }
 
 /// Returns the flag at a place.
-fn flag_at(flags: &[bool], place: usize) -> bool
+pub fn flag_at(flags: &[bool], place: usize) -> bool
     requires { place < length flags.now }
     ensures { drop place flags.now ≡ result ∷ drop (place + 1) flags.now }
 {
@@ -44,7 +44,7 @@ fn flag_at(flags: &[bool], place: usize) -> bool
 }
 
 /// Returns the pair at a place.
-pub(crate) fn pair_at<'h>(entries: &[Shown<'h>], place: usize) -> Shown<'h>
+pub fn pair_at<'h>(entries: &[Shown<'h>], place: usize) -> Shown<'h>
     requires { place < length entries.now }
     ensures { drop place entries.now ≡ result ∷ drop (place + 1) entries.now }
 {
@@ -53,7 +53,7 @@ pub(crate) fn pair_at<'h>(entries: &[Shown<'h>], place: usize) -> Shown<'h>
 }
 
 /// Keeps a path and its newest copy if they are flagged.
-fn keep_if<'h>(
+pub fn keep_if<'h>(
     pairs: &mut Vec<Shown<'h>>,
     path: &'h Path,
     entry: Entry,

@@ -17,7 +17,7 @@ pub fn bare_name(name: &[u8]) -> &[u8]
 }
 
 /// The result of matching a pattern with a name up to the first `*`.
-enum Front<'t> {
+enum FrontMatch<'t> {
     /// There is no `*`, and it matches the whole name.
     Whole,
     /// It does not match.
@@ -34,30 +34,30 @@ fn takes(mark: u8, byte: u8) -> bool
 }
 
 /// Matches a pattern up to its first `*`.
-fn match_front<'t>(pattern: &'t [u8], name: &'t [u8]) -> Front<'t>
+fn match_front<'t>(pattern: &'t [u8], name: &'t [u8]) -> FrontMatch<'t>
     ensures { IsFront result pattern.now name.now }
 {
     let mut left = pattern;
     let mut behind = name;
     while let Some((mark, rest)) = left.split_first() {
         if *mark == b'*' {
-            return Front::Star(rest, behind);
+            return FrontMatch::Star(rest, behind);
         }
         match behind.split_first() {
             Some((byte, more)) => {
                 if !takes(*mark, *byte) {
-                    return Front::Never;
+                    return FrontMatch::Never;
                 }
                 left = rest;
                 behind = more;
             }
-            None => return Front::Never,
+            None => return FrontMatch::Never,
         }
     }
     if behind.is_empty() {
-        Front::Whole
+        FrontMatch::Whole
     } else {
-        Front::Never
+        FrontMatch::Never
     }
 }
 
@@ -71,12 +71,12 @@ fn matches_somewhere(pattern: &[u8], name: &[u8]) -> bool
     let mut behind = name;
     loop {
         match match_front(left, behind) {
-            Front::Whole => return true,
-            Front::Star(rest, more) => {
+            FrontMatch::Whole => return true,
+            FrontMatch::Star(rest, more) => {
                 left = rest;
                 behind = more;
             }
-            Front::Never => match behind.split_first() {
+            FrontMatch::Never => match behind.split_first() {
                 Some((_, more)) => behind = more,
                 None => return false,
             },
@@ -90,8 +90,8 @@ pub fn matches(pattern: &[u8], name: &[u8]) -> bool
     ensures { result ≡ model.matches pattern.now name.now }
 {
     match match_front(pattern, name) {
-        Front::Whole => true,
-        Front::Never => false,
-        Front::Star(rest, more) => matches_somewhere(rest, more),
+        FrontMatch::Whole => true,
+        FrontMatch::Never => false,
+        FrontMatch::Star(rest, more) => matches_somewhere(rest, more),
     }
 }

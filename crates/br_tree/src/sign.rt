@@ -7,8 +7,8 @@ ghost use Rattle.br_tree.specs.Walk.{AreSorted, NoneBegins, marked_in};
 
 use crate::child::Sign;
 use crate::flags::Flags;
-use crate::run::{Shown, not_before, run_near};
-use crate::walk::own_len;
+use crate::shown_paths::{Shown, not_before, run_near};
+use crate::tree_walk::own_len;
 use br_types::is_directory_path;
 
 /// Returns whether a flag is set.

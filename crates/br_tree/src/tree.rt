@@ -10,12 +10,12 @@ ghost use Rattle.br_tree.specs.Seen.{flagged, seen_child, seen_path};
 
 use crate::change::{Change, Meant};
 use crate::child::Child;
+use crate::child_names::names_in;
 use crate::flags::Flags;
 use crate::list::{flagged_pairs, found_pairs, paths_of};
-use crate::names::names_in;
-use crate::run::run_of;
-use crate::spans::spans_of;
-use crate::walk::{set_matching, set_own};
+use crate::path_spans::spans_of;
+use crate::shown_paths::run_of;
+use crate::tree_walk::{set_matching, set_own};
 use br_types::Path;
 use br_view::{Entry, View};
 use std::alloc::{AllocError, Global};

@@ -27,7 +27,7 @@ fn is_in_file(files: &BTreeSet<&[u8]>, path: &[u8]) -> bool
 }
 
 /// Adds one path to a set.
-fn add<'p>(set: &mut BTreeSet<&'p [u8]>, path: &'p [u8]) -> Result<(), AllocError>
+pub fn add_path<'p>(set: &mut BTreeSet<&'p [u8]>, path: &'p [u8]) -> Result<(), AllocError>
     ensures { OnOk result (AddsPaths (bytes_eq path.now) (has_path (λ k. k.now) set.old) (has_path (λ k. k.now) set.new)) }
 {
     match set.insert(path) {
@@ -37,12 +37,12 @@ fn add<'p>(set: &mut BTreeSet<&'p [u8]>, path: &'p [u8]) -> Result<(), AllocErro
 }
 
 /// Adds what comes before each slash of the path.
-fn add_folders<'p>(folders: &mut BTreeSet<&'p [u8]>, path: &'p [u8]) -> Result<(), AllocError>
+pub fn add_folders<'p>(folders: &mut BTreeSet<&'p [u8]>, path: &'p [u8]) -> Result<(), AllocError>
     ensures { OnOk result (AddsPaths (λ q. goes_on_behind q path.now) (has_path (λ k. k.now) folders.old) (has_path (λ k. k.now) folders.new)) }
 {
     for (i, byte) in path.iter().enumerate() {
         if *byte == b'/' {
-            add(folders, &path[..i])?;
+            add_path(folders, &path[..i])?;
         }
     }
     Ok(())
@@ -74,7 +74,7 @@ impl<'p> Ways<'p> {
         if is_directory_path(path) {
             Ok(())
         } else {
-            add(&mut self.files, path)
+            add_path(&mut self.files, path)
         }
     }
 }

@@ -7,7 +7,7 @@ use std::alloc::AllocError;
 use thiserror::Error;
 
 /// Why a name or a path was refused.
-#[derive(Clone, Copy, Debug, PartialEq, Eq, Error)]
+#[derive(Clone, Copy, Debug, Error)]
 pub enum NameFault {
     #[error("out of memory")]
     Memory,
@@ -39,7 +39,7 @@ impl From<AllocError> for NameFault {
 }
 
 /// Why an escaped text was refused.
-#[derive(Clone, Copy, Debug, PartialEq, Eq, Error)]
+#[derive(Clone, Copy, Debug, Error)]
 pub enum EscapeFault {
     #[error("out of memory")]
     Memory,

@@ -34,7 +34,7 @@ mod path;
 mod wanted;
 
 pub use bytes::{are_digits, has_no_nul, is_blank_byte, is_directory_path};
-pub use conflicts::{Ways, is_next};
+pub use conflicts::{Ways, add_folders, add_path, is_next};
 pub use decimal::{push_number, push_wide};
 pub use decimal_field::read_number;
 pub use escape::{byte_by, escaped_reads_back, push_escaped, push_hexadecimal, unescape};

@@ -6,7 +6,7 @@ use crate::fault::{EscapeFault, NameFault};
 use std::alloc::AllocError;
 
 /// Why a line of a script was refused.
-#[derive(Clone, Copy, PartialEq, Eq)]
+#[derive(Clone, Copy)]
 pub enum LineFault {
     Memory,
     /// The line has none of the forms.

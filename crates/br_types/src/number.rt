@@ -84,7 +84,7 @@ impl JobId {
 }
 
 /// One ASCII letter: the type, the level or the status of a job.
-#[derive(Clone, Copy, Debug, PartialEq, Eq, PartialOrd, Ord)]
+#[derive(Clone, Copy, Debug)]
 pub struct Letter {
     byte: u8,
 }

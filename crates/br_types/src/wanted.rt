@@ -2,7 +2,7 @@
 //! a file that can't be written, and with a folder that contains files already.
 
 /// Which files are delivered, if a bootstrap selects several copies of a path.
-#[derive(Clone, Copy, Debug, PartialEq, Eq)]
+#[derive(Clone, Copy)]
 pub enum Copies {
     /// All copies, in the order of the manifest.
     All,
@@ -10,8 +10,8 @@ pub enum Copies {
     Newest,
 }
 
-/// What is printed about the indexes that a bootstrap asks for and that gave no outcome.
-#[derive(Clone, Copy, Debug, PartialEq, Eq)]
+/// What is printed of the indexes that a bootstrap asks for and that gave no outcome.
+#[derive(Clone, Copy)]
 pub enum Gaps {
     /// Nothing.
     Unreported,
@@ -19,8 +19,8 @@ pub enum Gaps {
     Reported,
 }
 
-/// What a delivery does at a file that can't be written.
-#[derive(Clone, Copy, Debug, PartialEq, Eq)]
+/// What a delivery does at a file that can't be put.
+#[derive(Clone, Copy)]
 pub enum Stops {
     /// It stops.
     AtFirst,
@@ -28,8 +28,8 @@ pub enum Stops {
     Never,
 }
 
-/// What the folder of the restored files may contain before.
-#[derive(Clone, Copy, Debug, PartialEq, Eq)]
+/// What the folder that files are put into may hold before.
+#[derive(Clone, Copy)]
 pub enum Start {
     /// Nothing.
     Empty,
@@ -37,8 +37,8 @@ pub enum Start {
     Resumed,
 }
 
-/// What `extract` does besides what each restore does.
-#[derive(Clone, Copy, Debug, PartialEq, Eq)]
+/// What `extract` does beside what each restore does.
+#[derive(Clone, Copy)]
 pub struct Wanted {
     pub copies: Copies,
     pub gaps: Gaps,

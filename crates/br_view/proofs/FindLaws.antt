@@ -42,7 +42,7 @@ pairs_unmapped R f (x ∷ xs) h = (unmapped (R (f x)) f xs h.0, pairs_unmapped R
 view_rises : (view : List model.Entry) → IsView view → EachPair (λ (d e : model.Entry). rank_cmp d.path e.path ≡ Less) view
 view_rises view is = subst (EachPair (λ (d e : model.Entry). rank_cmp d.path e.path ≡ Less)) is (in_order_rises (λ (e : model.Entry). e.path) view)
 
-at_places : {X : Type 0} (R : X → X → Type 0) (xs : List X) → EachPair R xs → (i j : ℕ) (d : X) → i < j → j < length xs → R (get_or xs i d) (get_or xs j d)
+pub at_places : {X : Type 0} (R : X → X → Type 0) (xs : List X) → EachPair R xs → (i j : ℕ) (d : X) → i < j → j < length xs → R (get_or xs i d) (get_or xs j d)
 at_places R [] h i j d below lt = absurd (omega arith)
 at_places R (x ∷ xs) h i zero d below lt = absurd (omega arith)
 at_places R (x ∷ xs) h zero (suc j) d below lt = All-from_recursion (R x) xs h.0 j d (omega arith)

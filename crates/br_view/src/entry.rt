@@ -7,7 +7,7 @@ use br_history::{FileRow, JobRows};
 use br_types::{FileIndex, JobId, Path, SessionKey};
 
 /// The newest copy of a path.
-#[derive(Clone, Copy, Debug, PartialEq, Eq)]
+#[derive(Clone, Copy, Debug)]
 pub struct Entry {
     /// The job that saved it.
     pub job: JobId,

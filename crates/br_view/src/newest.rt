@@ -10,7 +10,7 @@ use std::alloc::{AllocError, Global};
 use std::collections::BTreeMap;
 
 /// A row of a job, by reference.
-type Kept<'h> = (&'h JobRows, &'h FileRow);
+type RowOfJob<'h> = (&'h JobRows, &'h FileRow);
 
 /// Returns the key by which copies are ordered: start time and number of the job, then the index.
 fn rank(job: &JobRows, row: &FileRow) -> (u64, u32, u32)
@@ -23,7 +23,7 @@ fn rank(job: &JobRows, row: &FileRow) -> (u64, u32, u32)
 }
 
 /// Returns whether a copy is newer than one that is kept, if there is one.
-fn is_news(known: Option<Kept<'_>>, job: &JobRows, row: &FileRow) -> bool
+fn is_news(known: Option<RowOfJob<'_>>, job: &JobRows, row: &FileRow) -> bool
     ensures { result ≡ newest.is_news (option_map newest.copy_of known.entry) (job.now, row.now) }
 {
     match known {
@@ -34,7 +34,7 @@ fn is_news(known: Option<Kept<'_>>, job: &JobRows, row: &FileRow) -> bool
 
 /// Keeps a copy if no newer one of its path is kept.
 fn note<'h>(
-    kept: &mut BTreeMap<&'h [u8], Kept<'h>>,
+    kept: &mut BTreeMap<&'h [u8], RowOfJob<'h>>,
     job: &'h JobRows,
     row: &'h FileRow,
 ) -> Result<(), AllocError>
@@ -48,7 +48,10 @@ fn note<'h>(
 }
 
 /// Adds the newer copies of a job.
-fn note_job<'h>(kept: &mut BTreeMap<&'h [u8], Kept<'h>>, job: &'h JobRows) -> Result<(), AllocError>
+fn note_job<'h>(
+    kept: &mut BTreeMap<&'h [u8], RowOfJob<'h>>,
+    job: &'h JobRows,
+) -> Result<(), AllocError>
     ensures kept { OnOk result (newest.Adds kept.old (newest.job_copies job.now) kept.new) }
     ensures valid { are_rows job.now ≡ true }
 {
@@ -62,7 +65,7 @@ fn note_job<'h>(kept: &mut BTreeMap<&'h [u8], Kept<'h>>, job: &'h JobRows) -> Re
 pub(crate) fn newest_copies<'h>(
     alloc: Global,
     jobs: &[&'h JobRows],
-) -> Result<BTreeMap<&'h [u8], Kept<'h>>, AllocError>
+) -> Result<BTreeMap<&'h [u8], RowOfJob<'h>>, AllocError>
     ensures { IfOk result (λ kept. newest.IsNewest (map (λ j. j.now) jobs.now) kept) }
 {
     let mut kept = BTreeMap::new(alloc);
@@ -75,7 +78,7 @@ pub(crate) fn newest_copies<'h>(
 /// Returns paths and entries of the copies that are not deletions, in byte order of the paths.
 pub(crate) fn entries_of<'h>(
     alloc: Global,
-    kept: &BTreeMap<&'h [u8], Kept<'h>>,
+    kept: &BTreeMap<&'h [u8], RowOfJob<'h>>,
 ) -> Result<Vec<(&'h Path, Entry)>, AllocError>
     ensures entries { IfOk result (λ entries. map shown_pair entries.items ≡ filter_map (λ e. shown (newest.copy_of e.1)) kept.now.entries) }
     ensures ordered { newest.AreOrdered kept.now }

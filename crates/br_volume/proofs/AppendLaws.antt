@@ -1,81 +1,15 @@
 -- What appending makes of the volumes that are looked up.
-use Rattle.std.proofs.Common.{◌≡◌, ℕ, Bool, true, false, cond, Option, Some, None, option_map, List, [], ◌∷◌, ◌++◌, refl, ap, sym, ◌∙◌, inl, inr, append_assoc, append-nil, take, drop, take-append-drop}
-use Rattle.std.specs.Prelude.{bytes_eq, find, flat_map, filter, unwrap_or}
+use Rattle.std.proofs.Common.{◌≡◌, ℕ, true, false, cond, Option, Some, None, List, [], ◌∷◌, ◌++◌, refl, ap, sym, subst, ◌∙◌, inl, inr, append_assoc, append-nil, take, drop, take-append-drop}
+use Rattle.std.specs.Prelude.{bytes_eq, flat_map, filter, unwrap_or}
 use Rattle.std.proofs.lemmas.List.Elements.{filter-append}
 use Rattle.std.proofs.lemmas.Slice.Eq.{bytes_eq-Decides}
-use Rattle.std.proofs.lemmas.Bool.Decides.{same_from_decides}
 use Rattle.br_model.specs.Volume.{Volume, volume_bytes, Extends}
 use Rattle.br_model.specs.SessionHolds.{bytes_of_volume, bytes_for, AreAppended}
+use Rattle.br_fs.proofs.AppendLaws.{appended_is, turned}
 use Rattle.br_volume.specs.Drive.{OnlyGrows}
 use Rattle.br_volume.specs.Store.{IsAppended, IsAppendedInPart, AppendsTo, AppendsInPartTo, AreAppendedInTurn, AppendsAddUp}
-use Rattle.br_volume.specs.MemStore.{Stored, FailsInPart, longer, with_appended}
+use Rattle.br_volume.specs.MemStore.{Stored, FailsInPart}
 use Rattle.br_volume.proofs.ExtendLaws.{extends_itself, extends_more}
-
-turned : (xs ys : List ℕ) → bytes_eq xs ys ≡ bytes_eq ys xs
-turned xs ys =
-    let e = bytes_eq-Decides ys xs in
-    same_from_decides (bytes_eq xs ys) (bytes_eq ys xs) (bytes_eq-Decides xs ys) ((λ h. sym (e.0 h)), (λ h. e.1 (sym h)))
-
--- two that equal a third
-same_third : (x y z : List ℕ) → bytes_eq x y ≡ true → bytes_eq z y ≡ bytes_eq x z
-same_third x y z h = ap (λ (w : List ℕ). bytes_eq z w) (sym ((bytes_eq-Decides x y).0 h)) ∙ turned z x
-
--- a name that equals one is apart from what that one is apart from
-apart_too : (x y z : List ℕ) → bytes_eq x y ≡ false → bytes_eq x z ≡ true → bytes_eq z y ≡ false
-apart_too x y z h e = ap (λ (w : List ℕ). bytes_eq w y) (sym ((bytes_eq-Decides x z).0 e)) ∙ h
-
--- what a look-up finds at the front, and after it
-abbrev shown_at : Bool → List ℕ → Option (List ℕ) → Option (List ℕ)
-shown_at b bytes found = cond b (Some bytes) found
-
-shown_cons : (v : Volume) (vs : List Volume) (name : List ℕ)
-    → volume_bytes (v ∷ vs) name ≡ shown_at (bytes_eq v.name name) v.bytes (volume_bytes vs name)
-unfolding volume_bytes
-shown_cons v vs name =
-    elim (bytes_eq v.name name) as (λ b. option_map (λ (w : Volume). w.bytes) (cond b (Some v) (find (λ w. bytes_eq w.name name) vs))
-    ≡ shown_at b v.bytes (option_map (λ (w : Volume). w.bytes) (find (λ w. bytes_eq w.name name) vs)))
-    [ true ↦ refl | false ↦ refl ]
-
-shown_nil : (name : List ℕ) → volume_bytes [] name ≡ None
-unfolding volume_bytes
-shown_nil name = refl
-
--- at a volume of the name, with a as the test that it is of the name appended to, b that it is of
--- the name looked up, and c that these two are the same
-step : (a b c : Bool) (own bytes : List ℕ) (new old : Option (List ℕ)) (old_bytes : List ℕ)
-    → (a ≡ true → c ≡ b) → (a ≡ false → b ≡ true → c ≡ false)
-    → new ≡ cond c (Some (old_bytes ++ bytes)) old
-    → cond a (shown_at b (own ++ bytes) old) (shown_at b own new)
-    ≡ cond c (Some (cond a own old_bytes ++ bytes)) (shown_at b own old)
-step true true c own bytes new old old_bytes same apart is = rw (same refl) refl
-step true false c own bytes new old old_bytes same apart is = rw (same refl) refl
-step false true c own bytes new old old_bytes same apart is = rw (apart refl refl) refl
-step false false c own bytes new old old_bytes same apart is = is
-
-if_cons : (a : Bool) (v : Volume) (vs : List Volume) (bytes : List ℕ) (others : List Volume) (name : List ℕ)
-    → volume_bytes (cond a (longer bytes v ∷ vs) (v ∷ others)) name
-    ≡ cond a (shown_at (bytes_eq v.name name) (v.bytes ++ bytes) (volume_bytes vs name)) (shown_at (bytes_eq v.name name) v.bytes (volume_bytes others name))
-if_cons true v vs bytes others name = shown_cons (longer bytes v) vs name
-if_cons false v vs bytes others name = shown_cons v others name
-
-or_none : (a : Bool) (own : List ℕ) (old : Option (List ℕ)) → unwrap_or (shown_at a own old) [] ≡ cond a own (unwrap_or old [])
-or_none true own old = refl
-or_none false own old = refl
-
--- the volumes with bytes appended show just that
-pub appended_shows : (volume bytes : List ℕ) (vs : List Volume) → IsAppended volume bytes vs (with_appended volume bytes vs)
-appended_shows volume bytes [] name =
-    shown_cons (record { name = volume; bytes = bytes }) [] name
-    ∙ rw (shown_nil name, shown_nil volume, turned volume name) refl
-appended_shows volume bytes (v ∷ vs) name =
-    if_cons (bytes_eq v.name volume) v vs bytes (with_appended volume bytes vs) name
-    ∙ step (bytes_eq v.name volume) (bytes_eq v.name name) (bytes_eq name volume) v.bytes bytes
-    (volume_bytes (with_appended volume bytes vs) name) (volume_bytes vs name) (bytes_of_volume vs volume)
-    (same_third v.name volume name) (apart_too v.name volume name) (appended_shows volume bytes vs name)
-    ∙ rw (shown_cons v vs volume, shown_cons v vs name, or_none (bytes_eq v.name volume) v.bytes (volume_bytes vs volume)) refl
-
-pub appended_is : (volume bytes : List ℕ) (earlier later : List Volume) → later ≡ with_appended volume bytes earlier → IsAppended volume bytes earlier later
-appended_is volume bytes earlier later e name = ap (λ (vs : List Volume). volume_bytes vs name) e ∙ appended_shows volume bytes earlier name
 
 -- an append that was made to fail appends the first of its bytes, or nothing
 pub failed_in_part : (volume bytes : List ℕ) (earlier later : Stored) → FailsInPart volume bytes earlier later
@@ -164,6 +98,12 @@ turn_extends : (blocks : List (List ℕ × List ℕ)) (earlier later : List Volu
 turn_extends [] earlier later same = rw same (extends_itself earlier)
 turn_extends (b ∷ bs) earlier later h =
     extends_more earlier h.0 later (turn_extends bs h.0 later h.2) (appended_extends b.0 b.1 earlier h.0 h.1)
+
+-- some blocks in turn, and one more
+pub in_turn_more : (blocks : List (List ℕ × List ℕ)) (block : List ℕ × List ℕ) (earlier middle later : List Volume) → AreAppendedInTurn blocks earlier middle
+    → IsAppended block.0 block.1 middle later → AreAppendedInTurn (blocks ++ block ∷ []) earlier later
+in_turn_more [] block earlier middle later is one = (later, subst (λ (m : List Volume). IsAppended block.0 block.1 m later) is one, refl)
+in_turn_more (b ∷ bs) block earlier middle later is one = (is.0, is.1, in_turn_more bs block is.0 middle later is.2 one)
 
 pub appends_add_up_lem : AppendsAddUp
 appends_add_up_lem blocks earlier later h = (turn_appends blocks earlier later h, turn_extends blocks earlier later h)

@@ -88,7 +88,7 @@ cut_at bytes a wanted size enough short =
 -- if a file was read, the volume shows its bytes
 pub shown_of : (folder name : List ℕ) (told : Option Tree) (address size : ℕ) (buffer : List ℕ) (got : Got)
     → HasBlock told (file_path folder name) address size buffer got
-    → AnswersOver (volumes_told folder told) name address size buffer (Ok got)
+    → AnswersOver (volumes_told folder told) name (address, size) buffer (Ok got)
 unfolding bytes_shown
 shown_of folder name None address size buffer got has = tt
 shown_of folder name (Some tree) address size buffer got has =
@@ -96,14 +96,14 @@ shown_of folder name (Some tree) address size buffer got has =
 
 -- if there is no file, there is no volume
 pub unknown_of : (folder name : List ℕ) (told : Option Tree) (address size : ℕ) (buffer : List ℕ)
-    → IsNoFile told (file_path folder name) → AnswersOver (volumes_told folder told) name address size buffer (Err UnknownVolume)
+    → IsNoFile told (file_path folder name) → AnswersOver (volumes_told folder told) name (address, size) buffer (Err UnknownVolume)
 unfolding bytes_shown
 unknown_of folder name None address size buffer none = tt
 unknown_of folder name (Some tree) address size buffer none = rw (volume_below folder name tree.files, none) refl
 
 -- any other refusal may come at any time
 pub refused_of : (folder name : List ℕ) (told : Option Tree) (address size : ℕ) (buffer : List ℕ) (fault : DriveFault)
-    → (fault ≡ UnknownVolume → IsNoFile told (file_path folder name)) → AnswersOver (volumes_told folder told) name address size buffer (Err fault)
+    → (fault ≡ UnknownVolume → IsNoFile told (file_path folder name)) → AnswersOver (volumes_told folder told) name (address, size) buffer (Err fault)
 refused_of folder name told address size buffer UnknownVolume none = unknown_of folder name told address size buffer (none refl)
 refused_of folder name None address size buffer Memory none = tt
 refused_of folder name (Some tree) address size buffer Memory none = tt
@@ -112,7 +112,7 @@ refused_of folder name (Some tree) address size buffer Fault none = tt
 
 pub answer_of : (folder name : List ℕ) (told : Option Tree) (address size : ℕ) (buffer : List ℕ) (answer : Result Got DriveFault)
     → IfOk answer (λ got. HasBlock told (file_path folder name) address size buffer got)
-    → (answer ≡ Err UnknownVolume → IsNoFile told (file_path folder name)) → AnswersOver (volumes_told folder told) name address size buffer answer
+    → (answer ≡ Err UnknownVolume → IsNoFile told (file_path folder name)) → AnswersOver (volumes_told folder told) name (address, size) buffer answer
 answer_of folder name told address size buffer (Ok got) has none = shown_of folder name told address size buffer got has
 answer_of folder name told address size buffer (Err fault) has none =
     refused_of folder name told address size buffer fault (λ e. none (ap Err e))
@@ -186,14 +186,14 @@ cut_sized a wanted size was now (Block n) room fits is =
     (same, omega arith, omega arith)
 
 -- the same of a path that is the volume's
-pub answer_at : (folder name path : List ℕ) (told : Option Tree) (address size : ℕ) (buffer : List ℕ) (answer : Result Got DriveFault)
-    → path ≡ file_path folder name → IfOk answer (λ got. HasBlock told path address size buffer got)
-    → (answer ≡ Err UnknownVolume → IsNoFile told path) → AnswersOver (volumes_told folder told) name address size buffer answer
-answer_at folder name path told address size buffer answer is has none =
-    answer_of folder name told address size buffer answer (rw is at has) (rw is at none)
+pub answer_at : (folder name path : List ℕ) (told : Option Tree) (block : ℕ × ℕ) (buffer : List ℕ) (answer : Result Got DriveFault)
+    → path ≡ file_path folder name → IfOk answer (λ got. HasBlock told path block.0 block.1 buffer got)
+    → (answer ≡ Err UnknownVolume → IsNoFile told path) → AnswersOver (volumes_told folder told) name block buffer answer
+answer_at folder name path told block buffer answer is has none =
+    answer_of folder name told block.0 block.1 buffer answer (rw is at has) (rw is at none)
 
 -- a fault that says nothing of the volume
-pub refused_at : (folder name : List ℕ) (told : Option Tree) (address size : ℕ) (buffer : List ℕ) (fault : DriveFault)
-    → (fault ≡ UnknownVolume → ⊥) → AnswersOver (volumes_told folder told) name address size buffer (Err fault)
-refused_at folder name told address size buffer fault other =
-    refused_of folder name told address size buffer fault (λ e. absurd (other e))
+pub refused_at : (folder name : List ℕ) (told : Option Tree) (block : ℕ × ℕ) (buffer : List ℕ) (fault : DriveFault)
+    → (fault ≡ UnknownVolume → ⊥) → AnswersOver (volumes_told folder told) name block buffer (Err fault)
+refused_at folder name told block buffer fault other =
+    refused_of folder name told block.0 block.1 buffer fault (λ e. absurd (other e))

@@ -2,7 +2,7 @@
 use Rattle.std.proofs.Common.{◌≡◌, ℕ, Option, Some, None, Result, Ok, Err, IfErr, List, refl, ap, ◌∙◌, arith}
 use Rattle.br_fs.specs.Tree.{Tree}
 use Rattle.br_fs.specs.Calls.{IsFound, IsSteady, IsTaken}
-use Rattle.br_fs.specs.declared.kind.Found.{Found}
+use Rattle.br_fs.specs.declared.kind.Metadata.{Metadata}
 use Rattle.br_fs.specs.declared.kind.Kind.{Kind}
 use Rattle.br_fs.specs.declared.kind.Kind.TheVariants.{File, Folder, Link, Other}
 use Rattle.br_fs.specs.declared.fault.DiskFault.{DiskFault}
@@ -58,10 +58,10 @@ none_by A disk.Memory one two is steady reads = tt
 none_by A disk.Failed one two is steady reads = absurd (not_failed A one two is steady)
 
 pub none_found : (fault : DiskFault) (given : DriveFault) (one two : Option ℕ) (told : Option Tree) (path : List ℕ) → given ≡ drive_fault fault
-    → IsSteady {A = Found} one two (Err fault) → (◌≡◌ {A = Result Found DiskFault} (Err fault) (Err disk.Exists) → one ≡ None) → IsKnownFree one told path
+    → IsSteady {A = Metadata} one two (Err fault) → (◌≡◌ {A = Result Metadata DiskFault} (Err fault) (Err disk.Exists) → one ≡ None) → IsKnownFree one told path
     → FindsNone two (Err given)
 none_found fault given one two told path is steady reads free =
-    rw is (none_by Found fault one two (steady_of one told path free) steady (λ e. reads (ap Err e)))
+    rw is (none_by Metadata fault one two (steady_of one told path free) steady (λ e. reads (ap Err e)))
 
 -- a file that can't be made where nothing is
 taken_nowhere : (steady : Option ℕ) (told : Option Tree) (path : List ℕ) → IsKnownFree steady told path → IsTaken told path → ⊥

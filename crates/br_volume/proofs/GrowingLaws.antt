@@ -2,7 +2,8 @@
 use Rattle.std.proofs.Common.{◌≡◌, Bool, true, false, cond, List, [], ◌∷◌, subst, sym}
 use Rattle.br_model.specs.Volume.{Volume, Extends}
 use Rattle.br_volume.specs.Memory.{Held, grown, grown_by}
-use Rattle.br_volume.proofs.AppendLaws.{appended_is, appended_extends}
+use Rattle.br_fs.proofs.AppendLaws.{appended_is}
+use Rattle.br_volume.proofs.AppendLaws.{appended_extends}
 use Rattle.br_volume.proofs.ExtendLaws.{extends_itself}
 
 -- the volumes that a call reads extend those before it

@@ -1,8 +1,6 @@
 pub mod ExtendLaws
 pub mod DriveLaws
-pub mod KeptLaws
 pub mod AppendLaws
-pub mod PlaceLaws
 pub mod GrowingLaws
 pub mod FolderLaws
 pub mod FreeLaws

@@ -23,12 +23,12 @@ abbrev pub bytes_got : List ℕ → Got → Option (List ℕ)
 bytes_got buffer (Block n) = Some buffer
 bytes_got buffer End = None
 
--- If the drive tells its volumes, the result is what they show. A drive may fail, and memory may
--- run out, at any time.
-abbrev pub AnswersOver : Option (List Volume) → List ℕ → ℕ → ℕ → List ℕ → Result Got DriveFault → Type 0
-AnswersOver None name address size buffer result = ⊤
-AnswersOver (Some volumes) name address size buffer result =
-    Answers (bytes_got buffer) cause result (bytes_shown volumes name address size)
+-- If the drive tells its volumes, the result is what they show of a block, which is its address and
+-- its size. A drive may fail, and memory may run out, at any time.
+abbrev pub AnswersOver : Option (List Volume) → List ℕ → ℕ × ℕ → List ℕ → Result Got DriveFault → Type 0
+AnswersOver None name block buffer result = ⊤
+AnswersOver (Some volumes) name block buffer result =
+    Answers (bytes_got buffer) cause result (bytes_shown volumes name block.0 block.1)
 
 -- A drive tells its volumes always or never, and each volume only grows at its end.
 abbrev pub OnlyGrows : Option (List Volume) → Option (List Volume) → Type 0

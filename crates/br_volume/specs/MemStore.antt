@@ -1,7 +1,10 @@
 -- A store over memory.
-use Rattle.std.specs.Prelude.{◌≡◌, ℕ, zero, suc, ◌+◌, ◌⊎◌, if◌then◌else◌, List, [], ◌∷◌, ◌++◌, bytes_eq, take, Option, Some, None}
+use Rattle.std.specs.Prelude.{◌≡◌, ℕ, zero, suc, ◌+◌, ◌⊎◌, List, [], take, Option, Some, None}
 use Rattle.br_model.specs.Volume.{Volume}
 use Rattle.br_volume.specs.Calls.{one_fewer}
+-- the volumes with bytes appended to the first of this name, or with a new volume of them at the
+-- end if there is none
+pub use Rattle.br_fs.specs.Memory.{with_appended}
 
 -- its volumes, the number of failed calls, and the one append that is to fail, if one is: the
 -- number of appends before it, and the number of its bytes that it keeps
@@ -23,16 +26,6 @@ failing n kept = record { volumes = []; failures = 0; appends_left = calls_befor
 -- a store of these volumes, of which no append is to fail
 abbrev pub sound : List Volume → Stored
 sound volumes = record { volumes = volumes; failures = 0; appends_left = None; bytes_kept = 0 }
-
--- a volume with bytes appended
-abbrev pub longer : List ℕ → Volume → Volume
-longer bytes v = record { name = v.name; bytes = v.bytes ++ bytes }
-
--- the volumes with bytes appended to the first of this name, or with a new volume of them at the
--- end if there is none
-abbrev pub with_appended : List ℕ → List ℕ → List Volume → List Volume
-with_appended volume bytes [] = record { name = volume; bytes = bytes } ∷ []
-with_appended volume bytes (v ∷ vs) = if bytes_eq v.name volume then longer bytes v ∷ vs else v ∷ with_appended volume bytes vs
 
 -- the store after bytes were appended
 abbrev pub after_append : List ℕ → List ℕ → Stored → Stored

@@ -1,5 +1,5 @@
 -- A drive over memory.
-use Rattle.std.specs.Prelude.{ℕ, ◌+◌, ◌-◌, ◌^◌, min, Bool, true, false, if◌then◌else◌, List, [], ◌∷◌, map, Vec, Option, Result, Ok, Err}
+use Rattle.std.specs.Prelude.{ℕ, ◌+◌, ◌-◌, ◌^◌, min, Bool, true, false, if◌then◌else◌, List, [], ◌∷◌, Option, Result, Ok, Err}
 use Rattle.br_model.specs.Volume.{Volume}
 use Rattle.br_volume.specs.Calls.{is_out, one_fewer}
 use Rattle.br_volume.specs.Drive.{bytes_shown}
@@ -7,10 +7,8 @@ use Rattle.br_volume.specs.declared.drive.Got.{Got}
 use Rattle.br_volume.specs.declared.drive.Got.TheVariants.{Block, End}
 use Rattle.br_volume.specs.declared.fault.DriveFault.{DriveFault}
 use Rattle.br_volume.specs.MemStore.{with_appended}
-
 -- the volumes that are kept as pairs of a name and bytes, in their order
-abbrev pub volumes_of : {A : Type 0} → List (List ℕ × Vec ℕ A) → List Volume
-volumes_of {A} kept = map (λ (v : List ℕ × Vec ℕ A). record { name = v.0; bytes = v.1.items }) kept
+pub use Rattle.br_fs.specs.Memory.{files_of as volumes_of}
 
 -- its volumes, the tails that it is to append, the next one first, whether it was called before, the
 -- number of calls before it fails, if it is to fail, the number of bytes that it gave, at most

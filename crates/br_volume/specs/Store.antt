@@ -1,18 +1,10 @@
--- The effect of an append, and what always holds of the volumes that a store tells.
-use Rattle.std.specs.Prelude.{◌≡◌, ℕ, ◌⊎◌, if◌then◌else◌, List, [], ◌∷◌, ◌++◌, length, bytes_eq, Option, Some, None, ⊤}
-use Rattle.br_model.specs.Volume.{Volume, volume_bytes, Extends}
+-- What a store appends, and what stays true of the volumes that it tells.
+use Rattle.std.specs.Prelude.{◌≡◌, ℕ, ◌⊎◌, List, [], ◌∷◌, ◌++◌, length, Option, Some, None, ⊤}
+use Rattle.br_model.specs.Volume.{Volume, Extends}
 use Rattle.br_model.specs.SessionHolds.{bytes_of_volume, AreAppended}
-
--- the bytes of a volume after an append: those before and then these; or those before, if it is
--- another volume
-abbrev pub shown_after : List Volume → List ℕ → List ℕ → List ℕ → Option (List ℕ)
-shown_after earlier volume bytes name =
-    if bytes_eq name volume then Some (bytes_of_volume earlier volume ++ bytes) else volume_bytes earlier name
-
 -- The later volumes are the earlier ones with bytes appended to one of them, which is made if it
--- does not exist.
-abbrev pub IsAppended : List ℕ → List ℕ → List Volume → List Volume → Type 0
-IsAppended volume bytes earlier later = (name : List ℕ) → volume_bytes later name ≡ shown_after earlier volume bytes name
+-- was not there.
+pub use Rattle.br_fs.specs.Tree.{AreLonger as IsAppended}
 
 -- nothing is changed, or the first of the bytes are appended
 abbrev pub IsAppendedInPart : List ℕ → List ℕ → List Volume → List Volume → Type 0

@@ -49,7 +49,7 @@ impl<'v> Drive for BorrowedDrive<'v> {
         size: u32,
         buf: &mut Vec<u8>,
     ) -> Result<Got, DriveFault>
-        ensures answers { AnswersOver (Some self.new) vol.now addr size buf.new.items result }
+        ensures answers { AnswersOver (Some self.new) vol.now (addr, size) buf.new.items result }
         ensures sized { IfOk result (IsSized addr size buf.new.items) }
         ensures grows { OnlyGrows (Some self.old) (Some self.new) }
         ensures counted { 0 ≤ 0 }

@@ -7,7 +7,7 @@ use crate::fault::DriveFault;
 use br_types::VolName;
 
 /// What a drive read from a volume.
-#[derive(Clone, Copy, Debug, PartialEq, Eq)]
+#[derive(Clone, Copy, Debug, PartialEq)]
 pub enum Got {
     /// A block of this number of bytes, which are in the buffer.
     Block(u32),
@@ -39,7 +39,7 @@ pub trait Drive {
         size: u32,
         buf: &mut Vec<u8>,
     ) -> Result<Got, DriveFault>
-        ensures answers { AnswersOver (shows self.new) vol.now addr size buf.new.items result }
+        ensures answers { AnswersOver (shows self.new) vol.now (addr, size) buf.new.items result }
         ensures sized { IfOk result (IsSized addr size buf.new.items) }
         ensures grows { OnlyGrows (shows self.old) (shows self.new) }
         ensures counted { failures self.old ≤ failures self.new }

@@ -6,7 +6,7 @@ use std::alloc::AllocError;
 use thiserror::Error;
 
 /// The reason why a drive returned no bytes.
-#[derive(Clone, Copy, Debug, PartialEq, Eq, Error)]
+#[derive(Clone, Copy, Debug, PartialEq, Error)]
 pub enum DriveFault {
     #[error("out of memory")]
     Memory,
@@ -39,7 +39,7 @@ impl From<AllocError> for DriveFault {
 }
 
 /// The reason why a store of volumes did not append, or returned no length.
-#[derive(Clone, Copy, Debug, PartialEq, Eq, Error)]
+#[derive(Clone, Copy, Debug, Error)]
 pub enum VolumeFault {
     #[error("the store failed to append to a volume, or to tell its length")]
     Failed,

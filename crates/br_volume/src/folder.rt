@@ -7,7 +7,7 @@ ghost use Rattle.br_volume.specs.Folder.{FindsNone, IsKnownFree, drive_fault, fi
 ghost use Rattle.br_volume.specs.declared.fault.DriveFault.TheVariants.{Fault, UnknownVolume};
 
 use crate::fault::DriveFault;
-use br_fs::{Disk, DiskFault, Found, Kind};
+use br_fs::{Disk, DiskFault, Kind, Metadata};
 use br_types::VolName;
 use std::alloc::{AllocError, Global};
 use std::marker::Model;
@@ -65,7 +65,7 @@ pub(crate) fn fault_of(fault: DiskFault) -> DriveFault
 }
 
 /// Returns the length of a file; `Fault` for anything else.
-fn len_of(found: Found) -> Result<u64, DriveFault>
+fn len_of(found: Metadata) -> Result<u64, DriveFault>
     ensures file { IfOk result (λ n. (found.kind ≡ File) × (n ≡ found.len)) }
     ensures other { IfErr result (λ fault. fault ≡ Fault) }
 {

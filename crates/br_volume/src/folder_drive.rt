@@ -179,7 +179,7 @@ fn read_volume<D: Disk>(
     block: (u64, u32),
     buf: &mut Vec<u8>,
 ) -> Result<Got, DriveFault>
-    ensures answers { AnswersOver (volumes_told folder.now (D.told disk.new)) vol.now block.0 block.1 buf.new.items result }
+    ensures answers { AnswersOver (volumes_told folder.now (D.told disk.new)) vol.now block buf.new.items result }
     ensures sized { IfOk result (IsSized block.0 block.1 buf.new.items) }
     ensures same { D.told disk.new ≡ D.told disk.old }
 {

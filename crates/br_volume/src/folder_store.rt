@@ -9,7 +9,7 @@ ghost use Rattle.br_volume.specs.declared.fault.DriveFault.TheVariants.{Memory};
 use crate::count::Count;
 use crate::fault::{DriveFault, VolumeFault};
 use crate::folder::{Folder, fault_of, find_file};
-use crate::store::VolumeStore;
+use crate::volume_store::VolumeStore;
 use br_fs::{Disk, HostDisk, append};
 use br_types::VolName;
 use std::alloc::{AllocError, Global};

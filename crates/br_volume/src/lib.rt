@@ -20,7 +20,7 @@ mod folder_store;
 mod host_drives;
 mod mem;
 mod mem_store;
-mod store;
+mod volume_store;
 
 pub use borrowed::BorrowedDrive;
 pub use count::Count;
@@ -31,4 +31,4 @@ pub use folder_store::{FolderStore, open_or_make};
 pub use host_drives::{HostDrive, drives_over};
 pub use mem::MemDrive;
 pub use mem_store::MemStore;
-pub use store::{VolumeStore, appends_add_up};
+pub use volume_store::{VolumeStore, appends_add_up};

@@ -2,7 +2,7 @@ ghost use Rattle.std.specs.Prelude.{◌≡◌, ◌-◌, ◌^◌, ◌<◌, ◌≤
 ghost use Rattle.std.specs.Prelude.{option_map, Ok, Err, OnOk, OnErr, IfOk};
 ghost use Rattle.std.specs.Option.{option_copied};
 ghost use Rattle.br_model.specs.Answer.{Answers};
-ghost use Rattle.br_model.specs.Volume.{Volume, volume_bytes};
+ghost use Rattle.br_model.specs.Volume.{volume_bytes};
 ghost use Rattle.br_volume.specs.Drive.{AnswersOver, OnlyGrows, IsSized, bytes_got, bytes_from, bytes_shown};
 ghost use Rattle.br_volume.specs.Fault.{cause, failing_cause};
 ghost use Rattle.br_volume.specs.declared.fault.DriveFault.TheVariants.{Memory, Fault};
@@ -229,7 +229,7 @@ impl Drive for MemDrive {
         size: u32,
         buf: &mut Vec<u8>,
     ) -> Result<Got, DriveFault>
-        ensures answers { AnswersOver (Some self.new.volumes) vol.now addr size buf.new.items result }
+        ensures answers { AnswersOver (Some self.new.volumes) vol.now (addr, size) buf.new.items result }
         ensures sized { IfOk result (IsSized addr size buf.new.items) }
         ensures grows { OnlyGrows (Some self.old.volumes) (Some self.new.volumes) }
         ensures counted { self.old.failures ≤ self.new.failures }

@@ -1,17 +1,16 @@
-ghost use Rattle.std.specs.Prelude.{◌≡◌, ℕ, ◌+◌, ◌<◌, ◌≤◌, List, [], length, Option, OnOk, OnErr, IfOk};
+ghost use Rattle.std.specs.Prelude.{◌≡◌, ◌+◌, ◌<◌, ◌≤◌, [], length, Option, OnOk, OnErr, IfOk};
 ghost use Rattle.std.specs.Prelude.{bytes_eq, position, take, true, false, Err, Ok};
-ghost use Rattle.br_model.specs.Volume.{Volume, volume_bytes};
 ghost use Rattle.br_model.specs.SessionHolds.{bytes_of_volume};
 ghost use Rattle.br_volume.specs.Calls.{is_out};
 ghost use Rattle.br_volume.specs.Memory.{volumes_of};
-ghost use Rattle.br_volume.specs.MemStore.{FailsInPart, Stored, after_append, after_failure, after_part, failing, sound, with_appended};
+ghost use Rattle.br_volume.specs.MemStore.{FailsInPart, Stored, after_append, after_failure, failing, sound, with_appended};
 ghost use Rattle.br_volume.specs.Store.{AppendsTo, AppendsInPartTo, IsAppendedInPart, IsLengthIn};
 ghost use Rattle.br_volume.specs.declared.fault.VolumeFault.TheVariants.{Failed};
 
 use crate::count::Count;
 use crate::fault::VolumeFault;
 use crate::mem::bytes_of;
-use crate::store::VolumeStore;
+use crate::volume_store::VolumeStore;
 use br_types::VolName;
 use std::alloc::{AllocError, Global};
 use std::marker::Model;

@@ -1,4 +1,4 @@
-use Rattle.std.proofs.Common.{◌≡◌, ◌∙◌, ℕ, List, Result, Ok, ap, sym, map}
+use Rattle.std.proofs.Common.{◌≡◌, ◌∙◌, ℕ, List, Result, Ok, ap, map}
 use Rattle.std.specs.Borrow.{Bor}
 use Rattle.br_model.specs.Job.{JobRows}
 use Rattle.br_model.specs.Choice.{choose}
@@ -10,8 +10,6 @@ one_ok r js ks e f = cc
 
 pub returns : goal.returns
 returns c = λ jobs chosen.
-    let h = c.args.history.now in
     let js : List JobRows = map (λ (j : Bor JobRows). j.now) c.in_ok-jobs.jobs.items in
-    let is : choose h c.args.request.now ≡ Ok js = ap (choose h) (sym c.request.view_is) ∙ c.in_ok-jobs.ensures.answers in
     c.in_ok-view.ensures ∙ ap (λ (bs : List (Bor JobRows)). view_of (map (λ (j : Bor JobRows). j.now) bs)) c.deref.ensures.value
-    ∙ ap view_of (one_ok (choose h c.args.request.now) js jobs is chosen)
+    ∙ ap view_of (one_ok (choose c.args.asked.now.history c.args.asked.now.request) js jobs c.in_ok-jobs.ensures.answers chosen)

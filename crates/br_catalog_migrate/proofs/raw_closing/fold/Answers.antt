@@ -1,14 +1,15 @@
 use Rattle.std.proofs.Common.{subst}
 use Rattle.sqlite_wal.specs.Reads.{AreClean}
-use Rattle.br_catalog_migrate.proofs.RawFolds.{clean_before, with_empty_log}
+use Rattle.br_store.proofs.LookFolds.{clean_before}
+use Rattle.br_catalog_migrate.proofs.RawFolds.{with_empty_log}
 use Rattle.br_catalog_migrate.proofs.raw_closing.fold.Goals as goal
 
-pub returns : goal.returns
-returns g c = record {
+pub returns-in-Ok : goal.returns-in-Ok
+returns-in-Ok g c = record {
   folded = λ clean numbered sound.
       let old = c.in_ok-files.files in
-      let new = c.in_ok-left.left in
+      let new = c.in-Ok.left in
       let d = g.D.Disk in
-      let before : AreClean d old.log new.db = clean_before (d.is_clean new.log) (d.is_clean old.log) (d.is_clean new.db) c.in_ok-left.ensures.clean clean in
-      with_empty_log g.met.D.Disk.seen_may_stay c.args.store old new (c.in_ok-files.ensures.copied (subst (λ db. AreClean d old.log db) c.in_ok-left.ensures.db before) numbered sound) c.in_ok-left.ensures.log c.in_ok-left.ensures.db;
+      let before : AreClean d old.log new.db = clean_before (d.is_clean new.log) (d.is_clean old.log) (d.is_clean new.db) c.in-Ok.ensures.clean clean in
+      with_empty_log g.met.D.Disk.seen_may_stay c.args.store old new (c.in_ok-files.ensures.copied (subst (λ db. AreClean d old.log db) c.in-Ok.ensures.db before) numbered sound) c.in-Ok.ensures.log c.in-Ok.ensures.db;
 }

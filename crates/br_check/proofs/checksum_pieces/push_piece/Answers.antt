@@ -5,7 +5,7 @@ use Rattle.br_volume.proofs.ExtendLaws.{grows_itself, grows_more}
 use Rattle.br_check.specs.AskedBlocks.{groups_of, volume_of}
 use Rattle.br_check.specs.ChecksumPieces.{failed_line}
 use Rattle.br_check.specs.ChecksumWalk.{IsStep}
-use Rattle.br_check.specs.declared.checksum_walk.Step.TheVariants.{Ended, Failed, Passed}
+use Rattle.br_check.specs.declared.checksum_walk.ChecksumStep.TheVariants.{Ended, Failed, Passed}
 use Rattle.br_check.proofs.PieceLaws.{Walked, walk_ends_of, walk_fails_of, walk_goes_on, walk_starts}
 use Rattle.br_check.proofs.checksum_pieces.push_piece.Goals as goal
 

@@ -20,14 +20,14 @@ returns-in_err-lines-clause-runs g c =
     let shown = map g.D.Drive.shows c.args.restore.now.drives.items in
     rw (p.1, p.2)
     (runs_refused (g.R.Read.remaining c.args.reader.now) shown shown (g.W.Write.contents c.args.writer.now) (g.W.Write.contents c.prepare.new.writer)
-    c.args.asked.now.history.now c.args.asked.now.request.now c.in_err-lines.field-0.0 c.in_err-lines.ensures.begins)
+    c.args.asked.now.history c.args.asked.now.request c.in_err-lines.field-0.0 c.in_err-lines.ensures.begins)
 
 pub returns-in_err-lines-clause-tells : goal.returns-in_err-lines-clause-tells
 returns-in_err-lines-clause-tells g c =
     let p = err_from_is_err_and c.from_residual.result c.from_residual.ensures.1 in
     rw (p.1, p.2)
     (tells_refused (g.R.Read.remaining c.args.reader.now) (g.W.Write.contents c.args.writer.now) (g.W.Write.contents c.prepare.new.writer)
-    c.args.asked.now.history.now c.args.asked.now.request.now c.in_err-lines.field-0.0 c.in_err-lines.ensures.begins)
+    c.args.asked.now.history c.args.asked.now.request c.in_err-lines.field-0.0 c.in_err-lines.ensures.begins)
 
 pub returns-in_err-lines-clause-untouched : goal.returns-in_err-lines-clause-untouched
 returns-in_err-lines-clause-untouched g c = λ n refused.
@@ -58,8 +58,8 @@ returns-in_default-clause-delivers g c =
     let asked = c.args.asked.now in
     let lines = c.in_ok-lines.lines in (
       None,
-      restores_undone known shown shown before after asked.history.now asked.request.now lines
-          (subst (λ (plan : Option Plan). BeginsOver known before after asked.history.now asked.request.now (Ok (lines, plan))) c.in_default.is c.in_ok-lines.ensures.begins),
+      restores_undone known shown shown before after asked.history asked.request lines
+          (subst (λ (plan : Option Plan). BeginsOver known before after asked.history asked.request (Ok (lines, plan))) c.in_default.is c.in_ok-lines.ensures.begins),
       refl,
     )
 
@@ -71,8 +71,8 @@ returns-in_default-clause-runs g c =
     let after = g.W.Write.contents c.prepare.new.writer in
     let asked = c.args.asked.now in
     let lines = c.in_ok-lines.lines in
-    runs_undone known shown shown before after asked.history.now asked.request.now lines
-    (subst (λ (plan : Option Plan). BeginsOver known before after asked.history.now asked.request.now (Ok (lines, plan))) c.in_default.is c.in_ok-lines.ensures.begins)
+    runs_undone known shown shown before after asked.history asked.request lines
+    (subst (λ (plan : Option Plan). BeginsOver known before after asked.history asked.request (Ok (lines, plan))) c.in_default.is c.in_ok-lines.ensures.begins)
 
 pub returns-in_default-clause-tells : goal.returns-in_default-clause-tells
 returns-in_default-clause-tells g c =
@@ -81,8 +81,8 @@ returns-in_default-clause-tells g c =
     let after = g.W.Write.contents c.prepare.new.writer in
     let asked = c.args.asked.now in
     let lines = c.in_ok-lines.lines in
-    tells_undone known before after asked.history.now asked.request.now lines
-    (subst (λ (plan : Option Plan). BeginsOver known before after asked.history.now asked.request.now (Ok (lines, plan))) c.in_default.is c.in_ok-lines.ensures.begins)
+    tells_undone known before after asked.history asked.request lines
+    (subst (λ (plan : Option Plan). BeginsOver known before after asked.history asked.request (Ok (lines, plan))) c.in_default.is c.in_ok-lines.ensures.begins)
 
 pub returns-in_default-clause-untouched : goal.returns-in_default-clause-untouched
 returns-in_default-clause-untouched g c = λ n refused. absurd (c.in_ok-lines.ensures.chosen n refused)
@@ -101,7 +101,7 @@ returns-clause-delivers g c =
     let lines = c.in_ok-lines.lines in
     let plan = c.in-Some.plan in
     let begins =
-    subst (λ (p : Option Plan). BeginsOver known before seen.old.written asked.history.now asked.request.now (Ok (lines, p))) c.in-Some.is c.in_ok-lines.ensures.begins in
+    subst (λ (p : Option Plan). BeginsOver known before seen.old.written asked.history asked.request (Ok (lines, p))) c.in-Some.is c.in_ok-lines.ensures.begins in
     let parts = c.into_parts-bootstrap in
     let order = c.plain-order in
     let made =
@@ -119,14 +119,14 @@ returns-clause-runs g c =
     let lines = c.in_ok-lines.lines in
     let plan = c.in-Some.plan in
     let begins =
-    subst (λ (p : Option Plan). BeginsOver known before seen.old.written asked.history.now asked.request.now (Ok (lines, p))) c.in-Some.is c.in_ok-lines.ensures.begins in
+    subst (λ (p : Option Plan). BeginsOver known before seen.old.written asked.history asked.request (Ok (lines, p))) c.in-Some.is c.in_ok-lines.ensures.begins in
     let parts = c.into_parts-bootstrap in
     let order = c.plain-order in
     let made =
     plan_refused seen.old.told seen.new.told seen.old.written seen.new.written seen.old.has seen.new.has plan c.in-Err.fault c.console_fault.result c.console_fault.ensures
     (by_plan order.result seen (Err c.in-Err.fault) plan parts.result.0 parts.result.1 order.ensures.bootstrap order.ensures.names order.ensures.wanted parts.ensures.bootstrap
     parts.ensures.names c.in-Err.ensures.restores) in
-    runs_stopped known seen.old.told seen.new.told before seen.old.written seen.new.written seen.old.has seen.new.has asked.history.now asked.request.now lines plan c.console_fault.result begins made
+    runs_stopped known seen.old.told seen.new.told before seen.old.written seen.new.written seen.old.has seen.new.has asked.history asked.request lines plan c.console_fault.result begins made
 
 pub returns-clause-tells : goal.returns-clause-tells
 returns-clause-tells g c =
@@ -137,14 +137,14 @@ returns-clause-tells g c =
     let lines = c.in_ok-lines.lines in
     let plan = c.in-Some.plan in
     let begins =
-    subst (λ (p : Option Plan). BeginsOver known before seen.old.written asked.history.now asked.request.now (Ok (lines, p))) c.in-Some.is c.in_ok-lines.ensures.begins in
+    subst (λ (p : Option Plan). BeginsOver known before seen.old.written asked.history asked.request (Ok (lines, p))) c.in-Some.is c.in_ok-lines.ensures.begins in
     let parts = c.into_parts-bootstrap in
     let order = c.plain-order in
     let made =
     plan_refused seen.old.told seen.new.told seen.old.written seen.new.written seen.old.has seen.new.has plan c.in-Err.fault c.console_fault.result c.console_fault.ensures
     (by_plan order.result seen (Err c.in-Err.fault) plan parts.result.0 parts.result.1 order.ensures.bootstrap order.ensures.names order.ensures.wanted parts.ensures.bootstrap
     parts.ensures.names c.in-Err.ensures.restores) in
-    tells_stopped known before seen.old.written seen.new.written asked.history.now asked.request.now lines plan c.console_fault.result begins made.1
+    tells_stopped known before seen.old.written seen.new.written asked.history asked.request lines plan c.console_fault.result begins made.1
 
 pub returns-clause-untouched : goal.returns-clause-untouched
 returns-clause-untouched g c = λ n refused. absurd (c.in_ok-lines.ensures.chosen n refused)
@@ -166,7 +166,7 @@ returns-in-Ok-clause-delivers g c =
     let lines = c.in_ok-lines.lines in
     let plan = c.in-Some.plan in
     let begins =
-    subst (λ (p : Option Plan). BeginsOver known before seen.old.written asked.history.now asked.request.now (Ok (lines, p))) c.in-Some.is c.in_ok-lines.ensures.begins in
+    subst (λ (p : Option Plan). BeginsOver known before seen.old.written asked.history asked.request (Ok (lines, p))) c.in-Some.is c.in_ok-lines.ensures.begins in
     let parts = c.into_parts-bootstrap in
     let order = c.plain-order in
     let made =
@@ -174,7 +174,7 @@ returns-in-Ok-clause-delivers g c =
     (by_plan order.result seen (Ok c.in-Ok.done) plan parts.result.0 parts.result.1 order.ensures.bootstrap order.ensures.names order.ensures.wanted parts.ensures.bootstrap
     parts.ensures.names c.in-Ok.ensures.restores) in (
       Some made.0,
-      restores_files known seen.old.told seen.new.told before seen.old.written seen.new.written seen.old.has seen.new.has asked.history.now asked.request.now lines plan c.in-Ok.done.end begins made,
+      restores_files known seen.old.told seen.new.told before seen.old.written seen.new.written seen.old.has seen.new.has asked.history asked.request lines plan c.in-Ok.done.end begins made,
       made.3,
     )
 
@@ -187,14 +187,14 @@ returns-in-Ok-clause-runs g c =
     let lines = c.in_ok-lines.lines in
     let plan = c.in-Some.plan in
     let begins =
-    subst (λ (p : Option Plan). BeginsOver known before seen.old.written asked.history.now asked.request.now (Ok (lines, p))) c.in-Some.is c.in_ok-lines.ensures.begins in
+    subst (λ (p : Option Plan). BeginsOver known before seen.old.written asked.history asked.request (Ok (lines, p))) c.in-Some.is c.in_ok-lines.ensures.begins in
     let parts = c.into_parts-bootstrap in
     let order = c.plain-order in
     let made =
     plan_restored seen.old.told seen.new.told seen.old.written seen.new.written seen.old.has seen.new.has plan c.in-Ok.done.end
     (by_plan order.result seen (Ok c.in-Ok.done) plan parts.result.0 parts.result.1 order.ensures.bootstrap order.ensures.names order.ensures.wanted parts.ensures.bootstrap
     parts.ensures.names c.in-Ok.ensures.restores) in
-    runs_restored known seen.old.told seen.new.told before seen.old.written seen.new.written seen.old.has seen.new.has asked.history.now asked.request.now lines plan c.in-Ok.done.end begins made
+    runs_restored known seen.old.told seen.new.told before seen.old.written seen.new.written seen.old.has seen.new.has asked.history asked.request lines plan c.in-Ok.done.end begins made
 
 pub returns-in-Ok-clause-tells : goal.returns-in-Ok-clause-tells
 returns-in-Ok-clause-tells g c =
@@ -205,14 +205,14 @@ returns-in-Ok-clause-tells g c =
     let lines = c.in_ok-lines.lines in
     let plan = c.in-Some.plan in
     let begins =
-    subst (λ (p : Option Plan). BeginsOver known before seen.old.written asked.history.now asked.request.now (Ok (lines, p))) c.in-Some.is c.in_ok-lines.ensures.begins in
+    subst (λ (p : Option Plan). BeginsOver known before seen.old.written asked.history asked.request (Ok (lines, p))) c.in-Some.is c.in_ok-lines.ensures.begins in
     let parts = c.into_parts-bootstrap in
     let order = c.plain-order in
     let made =
     plan_restored seen.old.told seen.new.told seen.old.written seen.new.written seen.old.has seen.new.has plan c.in-Ok.done.end
     (by_plan order.result seen (Ok c.in-Ok.done) plan parts.result.0 parts.result.1 order.ensures.bootstrap order.ensures.names order.ensures.wanted parts.ensures.bootstrap
     parts.ensures.names c.in-Ok.ensures.restores) in
-    tells_restored known seen.old.told seen.new.told before seen.old.written seen.new.written seen.old.has seen.new.has asked.history.now asked.request.now lines plan c.in-Ok.done.end begins made
+    tells_restored known seen.old.told seen.new.told before seen.old.written seen.new.written seen.old.has seen.new.has asked.history asked.request lines plan c.in-Ok.done.end begins made
 
 pub returns-in-Ok-clause-untouched : goal.returns-in-Ok-clause-untouched
 returns-in-Ok-clause-untouched g c = λ n refused. absurd (c.in_ok-lines.ensures.chosen n refused)

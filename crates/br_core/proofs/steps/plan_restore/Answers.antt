@@ -4,7 +4,7 @@ use Rattle.br_mark.specs.Said.{said}
 use Rattle.br_core.specs.Machine.Event.{Plan}
 use Rattle.br_core.specs.Stepping.{RestoresStep, world_with}
 use Rattle.br_core.specs.declared.event.Reply.TheVariants.{Planned}
-use Rattle.br_core.specs.declared.restore.Restore.{Restore}
+use Rattle.br_core.specs.declared.restore.OpenRestore.{OpenRestore}
 use Rattle.br_core.proofs.StepLaws.{plan_begins, plan_refused}
 use Rattle.br_core.proofs.steps.plan_restore.Goals as goal
 
@@ -23,5 +23,5 @@ pub returns : goal.returns
 returns c =
     let before = c.args.restores.now.items in
     let script = map said c.args.script.now in
-    subst (λ (after : List (Option Restore)). RestoresStep c.args.backups.now before (Plan c.args.request script) after (Ok (Planned c.in_ok-add.field-0))) (sym c.in_ok-add.ensures.ok)
+    subst (λ (after : List (Option OpenRestore)). RestoresStep c.args.backups.now before (Plan c.args.request script) after (Ok (Planned c.in_ok-add.field-0))) (sym c.in_ok-add.ensures.ok)
     (plan_begins c.args.backups.now before c.args.request script c.in_ok-restore.restore c.in_ok-add.field-0 c.in_ok-restore.ensures c.in_ok-add.ensures.number)

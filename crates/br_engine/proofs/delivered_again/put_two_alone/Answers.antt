@@ -17,7 +17,7 @@ returns-in-Both-clause-put g c =
     let had = g.S.Sink.has c.args.sink.now in
     let has = g.S.Sink.has c.put_two_by_parts-put.new.sink in
     both_alike given one.item.now other.item.now had has
-    (subst (λ (done : TwoDone). PutsTwo done given one.item.now other.item.now had has) c.in-Both.is c.put_two_by_parts-put.ensures.put)
+    (subst (λ (done : TwoDone). PutsTwo done given (one.item.now, other.item.now) had has) c.in-Both.is c.put_two_by_parts-put.ensures.put)
 
 -- ---- the first alone
 
@@ -32,7 +32,7 @@ returns-in-One-clause-put g c =
     let new : c.new.result ≡ record { number = parts_number fault; done = 1 } = c.new.ensures ∙ (λ i. record { number = c.cause.ensures i; done = 1 }) in
     subst (λ (stop : Stop). PutsLike given (one.item.now ∷ other.item.now ∷ []) had has (Err stop)) (sym new)
     (first_alike given one.item.now other.item.now had has (parts_number fault)
-    (subst (λ (done : TwoDone). PutsTwo done given one.item.now other.item.now had has) c.in-One.is c.put_two_by_parts-put.ensures.put))
+    (subst (λ (done : TwoDone). PutsTwo done given (one.item.now, other.item.now) had has) c.in-One.is c.put_two_by_parts-put.ensures.put))
 
 pub returns-in-One-clause-stopped : goal.returns-in-One-clause-stopped
 returns-in-One-clause-stopped g c =
@@ -61,7 +61,7 @@ returns-in-Neither-clause-put g c =
     c.new-in-Neither.ensures ∙ (λ i. record { number = c.cause-in-Neither.ensures i; done = 0 }) in
     subst (λ (stop : Stop). PutsLike given (one.item.now ∷ other.item.now ∷ []) had has (Err stop)) (sym new)
     (none_alike given (one.item.now ∷ other.item.now ∷ []) had has (parts_number fault)
-    (subst (λ (done : TwoDone). PutsTwo done given one.item.now other.item.now had has) c.in-Neither.is c.put_two_by_parts-put.ensures.put))
+    (subst (λ (done : TwoDone). PutsTwo done given (one.item.now, other.item.now) had has) c.in-Neither.is c.put_two_by_parts-put.ensures.put))
 
 pub returns-in-Neither-clause-stopped : goal.returns-in-Neither-clause-stopped
 returns-in-Neither-clause-stopped g c =

@@ -9,8 +9,10 @@ use Rattle.br_data.proofs.GoOnLaws.{go_itself, go_more}
 use Rattle.br_sink.specs.Delivery.{items_in}
 use Rattle.br_engine.specs.DeliveredAgain.{CanMake, IsStopAgain, PutsLike}
 use Rattle.br_engine.proofs.AgainLaws.{make_window}
-use Rattle.br_engine.proofs.StopLaws.{few_items, files_counted, items_around, items_window, length_taken, none_put, puts_if, puts_more, puts_stop, rest_is, taken_few, taken_window}
+use Rattle.br_sink.proofs.PassingLaws.{few_items, rest_is}
+use Rattle.br_engine.proofs.StopLaws.{files_counted, items_around, items_window, none_put, puts_if, puts_more, puts_stop, taken_few, taken_window}
 use Rattle.br_engine.proofs.delivered_again.put_windows.Goals as goal
+use Rattle.std.proofs.lemmas.List.{length-take-le}
 
 pub loop-place-init : goal.loop-place-init
 loop-place-init g c = record {
@@ -35,7 +37,7 @@ overflow_add-done g c =
     let few : n ≤ length (drop place os) = subst (λ (os : List (FileKey × Outcome)). n ≤ length os) rest within in
     let as_many = ap length (taken_window place n os window is few) ∙ length-append (take place os) window in
     let taken = taken_few (place + length window) os in
-    let before = length_taken place os l.within in
+    let before = length-take-le place os l.within in
     let below = c.in-Err.ensures.stopped.within in
     let fewer = few_items window in
     let sum : c.loop-place.done + c.done.result ≤ length os = omega (arith, below, fewer, l.few, as_many, taken, before, c.done.ensures) in
@@ -113,7 +115,7 @@ overflow_add-done-in-loop-place g c =
     let few : n ≤ length (drop place os) = subst (λ (os : List (FileKey × Outcome)). n ≤ length os) rest within in
     let as_many = ap length (taken_window place n os window is few) ∙ length-append (take place os) window in
     let taken = taken_few (place + length window) os in
-    let before = length_taken place os l.within in
+    let before = length-take-le place os l.within in
     let files = ap (λ (t : Totals). t.files) (c.done-in-loop-place.view_is ∙ c.totals.ensures) ∙ files_counted (map restored window) in
     let fewer = few_items window in
     let sum : c.loop-place.done + c.done-in-loop-place.inside.files ≤ length os = omega (arith, files, fewer, l.few, as_many, taken, before) in
@@ -132,7 +134,7 @@ loop-place-preserved g c =
     let few : n ≤ length (drop place os) = subst (λ (os : List (FileKey × Outcome)). n ≤ length os) rest within in
     let as_many = ap length (taken_window place n os window is few) ∙ length-append (take place os) window in
     let taken = taken_few (place + length window) os in
-    let before = length_taken place os l.within in
+    let before = length-take-le place os l.within in
     let gathered = c.args.source.now.gathered.now in
     let given = CanMake c.args.many.now gathered (map restored os) in
     let xs = items_in (take place os) in

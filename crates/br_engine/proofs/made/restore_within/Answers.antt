@@ -5,7 +5,7 @@ use Rattle.br_model.specs.Bootstrap.{Group}
 use Rattle.br_model.specs.Restored.{Names, files, planned_in}
 use Rattle.br_join.specs.Outcome.{restored}
 use Rattle.br_engine.specs.DeliveredAgain.{CanGive, CanReread, MadeOver}
-use Rattle.br_engine.specs.declared.made.Made.{Made}
+use Rattle.br_engine.specs.declared.made.MadeFiles.{MadeFiles}
 use Rattle.br_engine.proofs.AgainLaws.{fails_later, made_files, made_gives, stay_on}
 use Rattle.br_engine.proofs.ExtractLaws.{gives_files, gives_refused}
 use Rattle.br_engine.proofs.JoinLaws.{files_of_hits, no_files_of}
@@ -58,7 +58,7 @@ returns-clause-again g c =
     c.in_ok-joiner.ensures.places c.made_of.ensures.places joining c.in_ok-joiner.ensures.hits c.made_of.result
     (subst
     (λ (gs : List Group). IfOk c.made_of.result
-    (λ (m : Made). CanReread shows failures second gs joining.hits → CanGive shows failures third gs m.gathered (map restored m.outcomes.items)))
+    (λ (m : MadeFiles). CanReread shows failures second gs joining.hits → CanGive shows failures third gs m.gathered (map restored m.outcomes.items)))
     c.groups.ensures.same c.made_of.ensures.again)
 
 pub returns-clause-places : goal.returns-clause-places

@@ -27,7 +27,7 @@ returns-in-Ok-run_pool_streaming-clause-hits g c =
     let hits = c.run_pool_streaming.new.joiner.hits in
     let begun_with = ap (λ (j : Joining). j.hits) c.in-Ok-with_room.ensures in
     joined_found earlier later c.args.bootstrap.now pieces hits (c.deref-2.ensures.value ∙ c.in-Ok.ensures)
-    (subst (λ (held : Hits). StreamsOver earlier later pieces held hits (Ok tt)) begun_with c.in-Ok-run_pool_streaming.ensures.hits)
+    (subst (λ (held : Hits). StreamsOver (earlier, later) pieces held hits (Ok tt)) begun_with c.in-Ok-run_pool_streaming.ensures.hits)
 
 pub returns-clause-hits : goal.returns-clause-hits
 returns-clause-hits g c =

@@ -1,14 +1,23 @@
-use Rattle.std.proofs.Common.{◌≡◌, ◌++◌, ◌∷◌, [], List, sym, ap, ◌∙◌, append-nil}
+use Rattle.std.proofs.Common.{◌≡◌, ◌++◌, ◌∷◌, [], List, map, refl, sym, ap, subst, ◌∙◌, append-nil}
+use Rattle.std.specs.List.{AllByRecursion}
 use Rattle.std.specs.Option.{option_copied}
+use Rattle.std.proofs.lemmas.List.{map-append}
 use Rattle.br_model.specs.Meaning.{Hit}
 use Rattle.br_model.specs.Restored.{Restored, files_found}
+use Rattle.br_model.proofs.ListLaws.{all_append}
 use Rattle.br_records.specs.Runs.{listed}
-use Rattle.br_join.proofs.FilesLaws.{found_turn, none_found}
+use Rattle.br_join.proofs.FilesLaws.{behind_more, found_turn, none_found, part_behind}
 use Rattle.br_records.proofs.FilesLaws.{none_left, listed_behind, more_files}
+use Rattle.br_join.specs.Runs.{IsPart, Run, file_of}
 use Rattle.br_join.proofs.runs.found_runs.Goals as goal
 
 pub loop-first-init : goal.loop-first-init
-loop-first-init c = (c.requires, ap (λ xs. xs ++ files_found (listed c.args.hits.now)) c.new-runs.ensures.items)
+loop-first-init c = record {
+  sorted = c.requires;
+  behind = ([], refl);
+  parts = subst (AllByRecursion (IsPart c.args.hits.now)) (sym c.new-runs.ensures.items) tt;
+  files = ap (λ xs. map file_of xs ++ files_found (listed c.args.hits.now)) c.new-runs.ensures.items;
+}
 
 pub loop-first-smaller : goal.loop-first-smaller
 loop-first-smaller c =
@@ -18,20 +27,37 @@ loop-first-smaller c =
 
 pub loop-first-preserved : goal.loop-first-preserved
 loop-first-preserved c =
-    let key = c.first-in-Some.inside.key in
+    let rest = c.loop-first.rest.now in
+    let front = c.around.result.0.now in
+    let mine = c.around.result.1.now in
     let behind = c.around.result.2.now in
-    let turn = found_turn c.loop-first.rest.now c.around.result.0.now c.around.result.1.now behind c.in-Some.first.now key
+    let joined = c.around.ensures.joined in
+    let i = c.loop-first.invariant in
+    let turn = found_turn rest front mine behind c.in-Some.first.now c.first-in-Some.inside.key
     (sym c.first.ensures.value ∙ ap option_copied c.in-Some.is) (ap (λ (h : Hit). h.key) (sym c.first-in-Some.view_is))
-    c.around.ensures.joined c.around.ensures.before c.around.ensures.of_key c.around.ensures.after in
-    let file = c.new.result in
-    let next : files_found (listed c.loop-first.rest.now) ≡ file ∷ files_found (listed behind) =
-    turn.0 ∙ ap (λ (f : Restored). f ∷ files_found (listed behind)) (sym c.new.ensures) in (
-      listed_behind c.loop-first.rest.now c.around.result.0.now c.around.result.1.now behind c.around.ensures.joined c.loop-first.invariant.0,
-      more_files c.loop-first.runs.items c.push.new.self.items file (files_found (listed c.loop-first.rest.now)) (files_found (listed behind)) (files_found (listed c.args.hits.now))
-          c.in_ok-push.ensures.items c.loop-first.invariant.1 next,
-    )
+    joined c.around.ensures.before c.around.ensures.of_key c.around.ensures.after in
+    let run : Run = c.new.result in
+    let pushed = c.in_ok-push.ensures.items in
+    let joined_run : front ++ (run.hits ++ behind) ≡ rest = ap (λ (r : Run). front ++ (r.hits ++ behind)) c.new.ensures ∙ joined in
+    let next : files_found (listed rest) ≡ file_of run ∷ files_found (listed behind) =
+    turn.0 ∙ ap (λ (r : Run). file_of r ∷ files_found (listed behind)) (sym c.new.ensures) in record {
+      sorted = listed_behind rest front mine behind joined i.sorted;
+      behind = behind_more c.args.hits.now rest front mine behind i.behind joined;
+      parts =
+          subst (AllByRecursion (IsPart c.args.hits.now)) (sym pushed)
+          (all_append (IsPart c.args.hits.now) c.loop-first.runs.items (run ∷ []) i.parts
+          (part_behind c.args.hits.now rest front behind run i.behind joined_run, tt));
+      files =
+          more_files (map file_of c.loop-first.runs.items) (map file_of c.push.new.self.items) (file_of run) (files_found (listed rest)) (files_found (listed behind))
+          (files_found (listed c.args.hits.now)) (ap (map file_of) pushed ∙ map-append file_of c.loop-first.runs.items (run ∷ [])) i.files next;
+    }
 
-pub returns : goal.returns
-returns c =
+pub returns-clause-files : goal.returns-clause-files
+returns-clause-files c =
     let e : c.loop-first.rest.now ≡ [] = none_left c.loop-first.rest.now (sym c.first.ensures.value ∙ ap option_copied c.in_default.is) in
-    sym (append-nil c.loop-first.runs.items) ∙ ap (λ (xs : List Restored). c.loop-first.runs.items ++ xs) (sym none_found ∙ ap (λ (hs : List Hit). files_found (listed hs)) (sym e)) ∙ c.loop-first.invariant.1
+    sym (append-nil (map file_of c.loop-first.runs.items))
+    ∙ ap (λ (xs : List Restored). map file_of c.loop-first.runs.items ++ xs) (sym none_found ∙ ap (λ (hs : List Hit). files_found (listed hs)) (sym e))
+    ∙ c.loop-first.invariant.files
+
+pub returns-clause-parts : goal.returns-clause-parts
+returns-clause-parts c = c.loop-first.invariant.parts

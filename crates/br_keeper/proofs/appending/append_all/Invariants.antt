@@ -1,5 +1,5 @@
 use Rattle.std.proofs.Common.{take}
-use Rattle.br_keeper.specs.Preparing.{seen}
+use Rattle.br_history.specs.Preparing.{seen}
 use Rattle.br_keeper.specs.Writing.{AreWritten, shelf}
 use Rattle.br_keeper.proofs.appending.append_all.Given as goal
 

@@ -1,9 +1,9 @@
 use Rattle.std.proofs.Common.{ℕ, List, Err, ap, sym, subst, ◌∙◌}
 use Rattle.std.proofs.lemmas.Result.{err_from_is_err_and}
 use Rattle.br_model.specs.Job.{JobRows}
+use Rattle.br_history.specs.Preparing.{HasSession, MakesSession, seen}
 use Rattle.br_history.specs.Taken.{admitted}
 use Rattle.br_keeper.specs.Vouching.{starts_of}
-use Rattle.br_keeper.specs.Preparing.{HasSession, MakesSession, seen}
 use Rattle.br_keeper.proofs.PreparingLaws.{refused_row, refused_session}
 use Rattle.br_keeper.proofs.prepared.prepare.Goals as goal
 

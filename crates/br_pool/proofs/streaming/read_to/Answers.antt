@@ -2,7 +2,7 @@ use Rattle.std.proofs.Common.{◌≡◌, length, arith}
 use Rattle.br_pool.specs.Gathers.{by_sending}
 use Rattle.br_pool.specs.Rounds.{OverAll}
 use Rattle.br_pool.specs.Workers.{IsReady}
-use Rattle.br_pool.specs.declared.workers.Share.{Share}
+use Rattle.br_pool.specs.declared.workers.WorkerShare.{WorkerShare}
 use Rattle.br_pool.specs.declared.worker.Reader.{Reader}
 use Rattle.br_pool.specs.declared.worker.Worker.{Worker}
 use Rattle.br_pool.proofs.GathersLaws.{gathers_none, never_ok}
@@ -15,7 +15,7 @@ use Rattle.br_pool.proofs.streaming.read_to.Goals as goal
 -- the workers are set up
 pub send_all-workers-requires-clause-ready : goal.send_all-workers-requires-clause-ready
 send_all-workers-requires-clause-ready g c = λ κs lasts. let claims = c.args.task.now.round.now.claims.now in
-    all_over (λ (d : Share) (w : Worker g.row.D.Denot). (w.seat ≡ d.seat) × (w.answers ≡ d.answers)) (λ (d : Share). IsReady claims.claims claims.limit d.seat d.answers)
+    all_over (λ (d : WorkerShare) (w : Worker g.row.D.Denot). (w.seat ≡ d.seat) × (w.answers ≡ d.answers)) (λ (d : WorkerShare). IsReady claims.claims claims.limit d.seat d.answers)
     (λ (w : Worker g.row.D.Denot). IsReady claims.claims claims.limit w.seat w.answers) (λ d w r p. rw (r.0, r.1) p) c.args.shares.items c.into_workers.new.workers.items c.into_workers.ensures.shares c.requires.ready
 
 pub send_all-workers-requires-clause-many : goal.send_all-workers-requires-clause-many

@@ -8,7 +8,7 @@ use Rattle.br_pool.specs.Rounds.{OverAll}
 use Rattle.br_pool.specs.Slots.{AllBelow, empties, is_empty}
 use Rattle.br_pool.specs.Sending.{IsSent}
 use Rattle.br_pool.specs.Workers.{AreAllAnswered, IsReady, outs}
-use Rattle.br_pool.specs.declared.workers.Share.{Share}
+use Rattle.br_pool.specs.declared.workers.WorkerShare.{WorkerShare}
 use Rattle.br_pool.specs.declared.worker.Reader.{Reader}
 use Rattle.br_pool.proofs.AnswerLaws.{each_below}
 use Rattle.br_pool.proofs.EmptyLaws.{all_filled, empties_low, rounds_fall}
@@ -17,8 +17,8 @@ use Rattle.br_pool.proofs.ReaderLaws.{all_served}
 use Rattle.br_pool.proofs.SlotLaws.{length_with_each}
 use Rattle.br_pool.proofs.streaming.stream_round.Goals as goal
 
-ready_at : (a b : TableId) (m n : ℕ) (shares : List Share) → b ≡ a → n ≡ m → AllByRecursion (λ (d : Share). IsReady a m d.seat d.answers) shares
-    → AllByRecursion (λ (d : Share). IsReady b n d.seat d.answers) shares
+ready_at : (a b : TableId) (m n : ℕ) (shares : List WorkerShare) → b ≡ a → n ≡ m → AllByRecursion (λ (d : WorkerShare). IsReady a m d.seat d.answers) shares
+    → AllByRecursion (λ (d : WorkerShare). IsReady b n d.seat d.answers) shares
 ready_at a b m n shares p q h = rw (p, q) h
 
 -- before the drives are asked they are as they were

@@ -1,6 +1,6 @@
 use Rattle.std.proofs.Common.{◌≡◌, flat_map, reverse, length, arith}
 use Rattle.br_pool.specs.Workers.{IsReady}
-use Rattle.br_pool.specs.declared.workers.Share.{Share}
+use Rattle.br_pool.specs.declared.workers.WorkerShare.{WorkerShare}
 use Rattle.br_pool.specs.declared.worker.Reader.{Reader}
 use Rattle.br_pool.specs.declared.worker.Worker.{Worker}
 use Rattle.br_pool.proofs.ListLaws.{all_over, zip_length}
@@ -16,7 +16,7 @@ returns-in_err-workers-clause-served g c = all_served (λ (r : Reader g.row.D.De
 
 pub run_all-workers-requires-clause-ready : goal.run_all-workers-requires-clause-ready
 run_all-workers-requires-clause-ready g c = λ κs lasts. let claims = c.args.round.now.claims.now in
-    all_over (λ (d : Share) (w : Worker g.row.D.Denot). (w.seat ≡ d.seat) × (w.answers ≡ d.answers)) (λ (d : Share). IsReady claims.claims claims.limit d.seat d.answers)
+    all_over (λ (d : WorkerShare) (w : Worker g.row.D.Denot). (w.seat ≡ d.seat) × (w.answers ≡ d.answers)) (λ (d : WorkerShare). IsReady claims.claims claims.limit d.seat d.answers)
     (λ (w : Worker g.row.D.Denot). IsReady claims.claims claims.limit w.seat w.answers) (λ d w r p. rw (r.0, r.1) p) c.args.shares.items c.into_workers.new.workers.items c.into_workers.ensures.shares c.requires.ready
 
 pub out_of_workers-requires-clause-room : goal.out_of_workers-requires-clause-room

@@ -1,7 +1,7 @@
 use Rattle.std.proofs.Common.{◌≡◌, subst}
 use Rattle.std.specs.List.{All}
 use Rattle.br_model.specs.Meaning.{Hit}
-use Rattle.br_reread_files.specs.Runs.{Run}
+use Rattle.br_join.specs.Runs.{Run}
 use Rattle.br_reread_files.proofs.DigestingLaws.{all_of_file}
 use Rattle.br_reread_files.proofs.both_digested.files_by_two.Goals as goal
 

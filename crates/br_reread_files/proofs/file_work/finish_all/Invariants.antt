@@ -2,7 +2,8 @@ use Rattle.std.proofs.Common.{◌≡◌, ◌++◌, map, reverse, vec_len}
 use Rattle.std.specs.List.{AllByRecursion}
 use Rattle.br_join.specs.Outcome.{restored}
 use Rattle.br_data.specs.ManyDrives.{GoOn}
-use Rattle.br_reread_files.specs.Runs.{GivesRuns, file_of}
+use Rattle.br_join.specs.Runs.{file_of}
+use Rattle.br_reread_files.specs.Runs.{GivesRuns}
 use Rattle.br_reread_files.specs.Sharing.{IsBegun, runs_in}
 use Rattle.br_reread_files.proofs.file_work.finish_all.Given as goal
 

@@ -1,6 +1,7 @@
 use Rattle.std.proofs.Common.{map, sym, ap, subst, ◌∙◌}
 use Rattle.std.proofs.lemmas.Result.{IfOk-weaker}
-use Rattle.br_reread_files.specs.Runs.{GivesRuns, file_of}
+use Rattle.br_join.specs.Runs.{file_of}
+use Rattle.br_reread_files.specs.Runs.{GivesRuns}
 use Rattle.br_reread_files.proofs.RunLaws.{given_runs}
 use Rattle.br_reread_files.proofs.making.files_by.Goals as goal
 

@@ -1,7 +1,8 @@
 use Rattle.std.proofs.Common.{◌≡◌, map, sym, ap, subst, ◌∙◌}
 use Rattle.std.proofs.lemmas.Result.{IfOk-weaker}
 use Rattle.br_data.proofs.GoOnLaws.{go_more, failed_on}
-use Rattle.br_reread_files.specs.Runs.{GivesRuns, file_of}
+use Rattle.br_join.specs.Runs.{file_of}
+use Rattle.br_reread_files.specs.Runs.{GivesRuns}
 use Rattle.br_reread_files.proofs.RunLaws.{runs_kept}
 use Rattle.br_reread_files.proofs.sharing.made_side_by_side.Goals as goal
 

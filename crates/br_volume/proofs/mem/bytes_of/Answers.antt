@@ -1,5 +1,5 @@
 use Rattle.std.proofs.Common.{Some, None}
-use Rattle.br_volume.proofs.KeptLaws.{found_kept}
+use Rattle.br_fs.proofs.KeptLaws.{found_kept}
 use Rattle.br_volume.proofs.mem.bytes_of.Goals as goal
 
 pub returns-in-None : goal.returns-in-None

@@ -1,6 +1,6 @@
 use Rattle.std.proofs.Common.{◌≡◌, ℕ, List, ◌++◌, Some, None, Result, Ok, Err, OnOk, OnErr, cond}
 use Rattle.std.specs.Prelude.{position, bytes_eq, is_ok}
-use Rattle.br_volume.proofs.PlaceLaws.{longer_where_found, made_at_end, same_where_set}
+use Rattle.br_fs.proofs.PlaceLaws.{longer_where_found, made_at_end, same_where_set}
 use Rattle.br_volume.proofs.mem_store.append_to.Goals as goal
 
 -- whether bytes were appended to others

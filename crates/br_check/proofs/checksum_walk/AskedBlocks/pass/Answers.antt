@@ -2,7 +2,7 @@ use Rattle.std.proofs.Common.{◌∙◌, ℕ, List, subst, sym}
 use Rattle.std.proofs.lemmas.Result.{IfOk-weaker}
 use Rattle.br_check.specs.AskedBlocks.{groups_of, volume_of}
 use Rattle.br_check.specs.ChecksumWalk.{HasSize, IsCompared, IsSeen}
-use Rattle.br_check.specs.declared.checksum_walk.Seen.TheVariants.{Bytes}
+use Rattle.br_check.specs.declared.checksum_walk.AtAddress.TheVariants.{Bytes}
 use Rattle.br_check.proofs.LaterLaws.{still}
 use Rattle.br_check.proofs.StepLaws.{compared_step, unasked_passes}
 use Rattle.br_check.proofs.checksum_walk.AskedBlocks.pass.Goals as goal

@@ -3,7 +3,7 @@ use Rattle.br_model.specs.Block.{Header, read_header}
 use Rattle.br_volume.proofs.ExtendLaws.{grows_more}
 use Rattle.br_check.specs.AskedBlocks.{groups_of, volume_of}
 use Rattle.br_check.specs.ChecksumWalk.{HasSize, InLater, IsSeen}
-use Rattle.br_check.specs.declared.checksum_walk.Seen.TheVariants.{Bytes, Nothing}
+use Rattle.br_check.specs.declared.checksum_walk.AtAddress.TheVariants.{Bytes, Nothing}
 use Rattle.br_check.proofs.LaterLaws.{size_later}
 use Rattle.br_check.proofs.StepLaws.{above_ends, bad_ends, nothing_ends}
 use Rattle.br_check.proofs.checksum_walk.AskedBlocks.step.Goals as goal

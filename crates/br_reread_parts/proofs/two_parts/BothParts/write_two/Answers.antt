@@ -1,5 +1,6 @@
 use Rattle.br_data.proofs.GoOnLaws.{go_more}
-use Rattle.br_reread_parts.proofs.TwoLaws.{alike_two, none_of, same_two, written_two}
+use Rattle.br_reread_parts.proofs.StepLaws.{none_of}
+use Rattle.br_reread_parts.proofs.TwoLaws.{alike_two, same_two, written_two}
 use Rattle.br_reread_parts.proofs.two_parts.BothParts.write_two.Goals as goal
 
 pub returns-in-Err-clause-written : goal.returns-in-Err-clause-written

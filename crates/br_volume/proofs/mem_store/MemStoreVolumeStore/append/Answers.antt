@@ -1,5 +1,5 @@
 use Rattle.std.proofs.Common.{rules}
-use Rattle.br_volume.proofs.AppendLaws.{appended_is}
+use Rattle.br_fs.proofs.AppendLaws.{appended_is}
 use Rattle.br_volume.proofs.mem_store.MemStoreVolumeStore.append.Goals as goal
 
 pub returns-in-Ok-clause-appended : goal.returns-in-Ok-clause-appended

@@ -1,8 +1,0 @@
-use Rattle.std.proofs.Common.{◌≡◌}
-use Rattle.br_fs.proofs.appending.write_some.Given as goal
-
-abbrev pub invariant-loop : goal.invariant-loop
-invariant-loop g l = record {
-  same : g.D.Disk.told l.disk ≡ g.D.Disk.told l.initial.disk;
-  file : g.D.Disk.path_of l.file ≡ g.D.Disk.path_of l.initial.file;
-}
