@@ -13,16 +13,13 @@ fn print_rows<R: Print + AllocGlobal>(rt: &R, rows: &[Refusal]) -> io::Result<u8
 }
 
 /// Prints the meaning of all numbers. Returns the exit status.
-pub(crate) fn explain_all<R: Print + AllocGlobal>(rt: &R) -> io::Result<u8> {
+pub fn explain_all<R: Print + AllocGlobal>(rt: &R) -> io::Result<u8> {
     print_rows(rt, &REFUSALS)
 }
 
 /// Prints the meaning of a number, or to standard error that it is no number of the table. Returns
 /// the exit status, 1 in the second case.
-pub(crate) fn explain_number<R: Print + Eprint + AllocGlobal>(
-    rt: &R,
-    number: u32,
-) -> io::Result<u8> {
+pub fn explain_number<R: Print + Eprint + AllocGlobal>(rt: &R, number: u32) -> io::Result<u8> {
     match explain(number) {
         Some(refusal) => print_rows(rt, &[*refusal]),
         None => {

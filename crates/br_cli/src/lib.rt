@@ -1,14 +1,13 @@
-//! The commands of the program: what each reads, does and prints, and its exit status.
+//! The commands of the program except `console` and `jobs`, which are in br_cli_console: what each
+//! reads, does and prints, and its exit status.
 //!
-//! `run_command` carries out a command from its options. `extract` and `check` restore and check by
-//! a bootstrap. `serve` runs scripts that commit jobs and restore, over a catalogue in a file and
-//! volumes in a folder, or in memory: `set_up_serve` makes a keeper of both, `serve_over` runs a
-//! script over it, and `FolderVolumes` are the volumes. `console` and `jobs` are in br_cli_console.
-//! The caller provides the jobs of a catalogue, as a `Catalogue` of br_keeper.
+//! `extract` and `check` restore and check by a bootstrap. `serve` runs scripts that commit jobs and
+//! restore, over a catalogue in a file and volumes in a folder, or in memory: `set_up_serve` makes a
+//! keeper of both, `serve_over` runs a script over it, and `FolderVolumes` are the volumes. The
+//! caller provides the jobs of a catalogue, as a `Catalogue` of br_keeper.
 #![tactic(auto)]
 
 mod check_command;
-mod command;
 mod explain_command;
 mod extract_command;
 mod folder_volumes;
@@ -18,12 +17,13 @@ mod serve_command;
 
 pub use br_cli_target::{BAD_STREAM, Ending, TarFault};
 pub use check_command::{CheckTask, check_ending, check_files, check_over, set_up_check};
-pub use command::run_command;
+pub use explain_command::{explain_all, explain_number};
 pub use extract_command::{
     ExtractStartFault, Extraction, extract_ending, extract_files, extract_over, set_up_extract,
 };
 pub use folder_volumes::FolderVolumes;
 pub use memory_script::{answer, serve_memory};
+pub use migrate_command::migrate_catalogue;
 pub use serve_command::{
     ServeSetup, ServeStartFault, serve_by_lines, serve_files, serve_over, set_up_serve,
 };

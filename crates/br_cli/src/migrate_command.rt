@@ -57,11 +57,7 @@ fn migrate_file<C: Catalogue>(
 /// # Errors
 ///
 /// If memory ran out, or a stream failed.
-pub(crate) fn migrate_catalogue<C: Catalogue>(
-    rt: &HostRuntime,
-    catalogue: &C,
-    db: &str,
-) -> io::Result<u8>
+pub fn migrate_catalogue<C: Catalogue>(rt: &HostRuntime, catalogue: &C, db: &str) -> io::Result<u8>
     ensures status { IfOk result IsStatus }
 {
     // Memory for the line is taken first, so that nothing is refused after the file was migrated.

@@ -8,13 +8,15 @@
 //! program does the same in memory.
 //!
 //! The words of the command line are read by clap, catalogues are in files of SQLite (module
-//! `catalogue`), and what the commands do is in br_cli.
+//! `catalogue`), and what the commands do is in br_cli and br_cli_console.
 #![tactic(auto)]
 
 mod catalogue;
+mod command;
 
 use crate::catalogue::CatalogueFiles;
-use br_cli::{BAD_STREAM, run_command};
+use crate::command::run_command;
+use br_cli::BAD_STREAM;
 use br_cli_args::read_words;
 use br_cli_common::{CLEAN, REFUSED, tell_refusal};
 use std::io::{self, ErrorKind};

@@ -1,12 +1,10 @@
 //! The commands, carried out from their options.
 ghost use Rattle.br_cli_common.specs.Options.{HasDrives};
 
-use crate::check_command::check_files;
-use crate::explain_command::{explain_all, explain_number};
-use crate::extract_command::extract_files;
-use crate::memory_script::serve_memory;
-use crate::migrate_command::migrate_catalogue;
-use crate::serve_command::serve_files;
+use br_cli::{
+    check_files, explain_all, explain_number, extract_files, migrate_catalogue, serve_files,
+    serve_memory,
+};
 use br_cli_common::{Invocation, greet};
 use br_cli_console::{list, restore_marked};
 use br_keeper::Catalogue;
@@ -25,7 +23,7 @@ const SCRIPT_AWAITED: &str =
 /// # Errors
 ///
 /// If memory ran out, or a stream of the program failed where that is no exit status of the command.
-pub fn run_command<C: Catalogue>(
+pub(crate) fn run_command<C: Catalogue>(
     rt: &HostRuntime,
     threads: &(impl Threads + Wait + Sync),
     catalogue: &C,
