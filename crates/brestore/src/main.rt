@@ -7,15 +7,14 @@
 //! standard input, over a catalogue and a folder of volumes, or in memory; without a command the
 //! program does the same in memory.
 //!
-//! The words of the command line are read by clap, catalogues are in files of SQLite (module
-//! `catalogue`), and what the commands do is in br_cli and br_cli_console.
+//! The words of the command line are read by br_cli_args, catalogues are in files of SQLite
+//! (br_catalog_files), and what the commands do is in br_cli and br_cli_console.
 #![tactic(auto)]
 
-mod catalogue;
 mod command;
 
-use crate::catalogue::CatalogueFiles;
 use crate::command::run_command;
+use br_catalog_files::CatalogueFiles;
 use br_cli::BAD_STREAM;
 use br_cli_args::read_words;
 use br_cli_common::{CLEAN, REFUSED, tell_refusal};
