@@ -139,7 +139,19 @@ refused_at vouches volumes now starts i s first before after why lt is all same 
         refused = subst (λ (v : Option (List Volume)). (is_retired vouches s.0 ≡ true) ⊎ HasOtherLength v s) same h.1;
       },
     )
-refused_at vouches volumes now starts i s first before after why lt is all same le (inr h) = inr (h.0, omega (arith, le, h.1))
+refused_at vouches volumes now starts i s first before after why lt is all same le (inr h) =
+    inr (
+      h.0,
+      record {
+        earlier = take i starts;
+        start = s;
+        rest = drop (suc i) starts;
+        split = split_at starts i s lt is;
+        serve = all;
+        refused = h.1;
+      },
+      omega (arith, le, h.2),
+    )
 
 -- ---- both
 
@@ -147,7 +159,7 @@ refused_at vouches volumes now starts i s first before after why lt is all same 
 pub not_vouched : (starts : List (List ℕ × ℕ)) (blocks : List (List ℕ × List ℕ)) (old new : Shelf) (why : KeeperFault) → IsKept old new
     → ChecksVolumes old.vouches old.volumes old.failures new.failures starts (Err why) → WritesBlocks starts blocks old new (Err why)
 not_vouched starts blocks old new why kept (inl h) = subst (λ (w : KeeperFault). WritesBlocks starts blocks old new (Err w)) (sym h.0) (kept, h.1)
-not_vouched starts blocks old new why kept (inr h) = subst (λ (w : KeeperFault). WritesBlocks starts blocks old new (Err w)) (sym h.0) (inl (kept, h.1))
+not_vouched starts blocks old new why kept (inr h) = subst (λ (w : KeeperFault). WritesBlocks starts blocks old new (Err w)) (sym h.0) (inl (record { kept = kept; first = h.1; failed = h.2 }))
 
 -- all of them may, and blocks are appended
 pub blocks_written : (starts : List (List ℕ × ℕ)) (blocks : List (List ℕ × List ℕ)) (old middle new : Shelf) (r : Result (Unit {0}) KeeperFault)

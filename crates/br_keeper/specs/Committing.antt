@@ -1,5 +1,5 @@
 -- What becomes of a job that is committed.
-use Rattle.std.specs.Prelude.{◌≡◌, ℕ, ◌<◌, ◌⊎◌, List, [], ◌∷◌, ◌++◌, Result, Ok, Err, ⊤}
+use Rattle.std.specs.Prelude.{◌≡◌, ℕ, ◌⊎◌, List, [], ◌∷◌, ◌++◌, Result, Ok, Err, ⊤}
 use Rattle.br_model.specs.Job.{JobRows}
 use Rattle.br_model.specs.Session.{Written}
 use Rattle.br_history.specs.Saving.{ToCommit}
@@ -12,7 +12,7 @@ use Rattle.br_keeper.specs.declared.fault.KeeperFault.TheVariants.{Memory, Dupli
 use Rattle.br_keeper.specs.Fault.{of_store_fault}
 use Rattle.br_keeper.specs.Vouching.{starts_of}
 use Rattle.br_history.specs.Preparing.{AreTooLong, IsSession}
-use Rattle.br_keeper.specs.Writing.{Shelf, IsKept, IsRetired, AreWrittenFrom, IsCutOffFrom}
+use Rattle.br_keeper.specs.Writing.{Shelf, IsKept, IsRetired, IsLengthRefused, AreWrittenFrom, IsCutOffFrom}
 use Rattle.br_keeper.specs.Keeping.{Keeping, jobs_of}
 
 -- the vouched lengths at which the blocks of a job begin
@@ -42,6 +42,13 @@ pub record MeetsRetired (history : List JobRows) (c : ToCommit) (old : Shelf) : 
   pub written : Written
   pub ready : IsReady history c old rows written
   pub retired : IsRetired old.vouches old.volumes (starts_for history c old)
+
+-- the session is ready, and the store failed to return the length of a volume of its places
+pub record MeetsFailedLength (history : List JobRows) (c : ToCommit) (old new : Shelf) : Type 0 where
+  pub rows : JobRows
+  pub written : Written
+  pub ready : IsReady history c old rows written
+  pub refused : IsLengthRefused (starts_for history c old) old new
 
 -- the session is ready, and the append of one of its blocks failed
 pub record MeetsFailure (history : List JobRows) (c : ToCommit) (old new : Shelf) : Type 0 where
@@ -73,7 +80,7 @@ abbrev pub StoresJob : {C : Type 0} → (JobRows → C → C → Type 0) → (Jo
 StoresJob inserts refuses history c before after old new (Ok rows) = IsWrittenTo inserts history c before after old new rows
 StoresJob inserts refuses history c before after old new (Err Memory) = IsUntouched before after old new
 StoresJob inserts refuses history c before after old new (Err VolumeFails) =
-    (after ≡ before) × ((IsKept old new × (old.failures < new.failures)) ⊎ MeetsFailure history c old new)
+    (after ≡ before) × (MeetsFailedLength history c old new ⊎ MeetsFailure history c old new)
 StoresJob inserts refuses history c before after old new (Err Store) = (rows : JobRows) × IsWrittenTo refuses history c before after old new rows
 StoresJob inserts refuses history c before after old new (Err StoredNotPublished) = ⊥
 StoresJob inserts refuses history c before after old new (Err BadCatalogue) = ⊥

@@ -1,16 +1,16 @@
 -- What each outcome of a commit says.
-use Rattle.std.specs.Prelude.{◌≡◌, ◌<◌, ◌⊎◌, [], ◌∷◌, ◌++◌, ⊤}
+use Rattle.std.specs.Prelude.{◌≡◌, ◌⊎◌, [], ◌∷◌, ◌++◌, ⊤}
 use Rattle.br_model.specs.Job.{JobRows}
 use Rattle.br_history.specs.Saving.{ToCommit}
 use Rattle.br_volume.specs.declared.volume_store.VolumeStore as volumes
 use Rattle.br_keeper.specs.declared.job_store.JobStore as jobs
 use Rattle.br_keeper.specs.declared.fault.KeeperFault.{KeeperFault}
-use Rattle.br_keeper.specs.declared.fault.KeeperFault.TheVariants.{Memory, DuplicateJob, DuplicateSession, BadRow, RetiredVolume, Volume, Store, StoredNotPublished, BadCatalogue}
+use Rattle.br_keeper.specs.declared.fault.KeeperFault.TheVariants.{Memory, Volume, Store, StoredNotPublished}
 use Rattle.br_keeper.specs.Beginnings.{Beginning, beginning}
 use Rattle.br_keeper.specs.Publishing.{all_published, with_added}
-use Rattle.br_keeper.specs.Writing.{Shelf, IsKept}
+use Rattle.br_keeper.specs.Writing.{Shelf}
 use Rattle.br_keeper.specs.Keeping.{Keeping, jobs_of, shelf_of}
-use Rattle.br_keeper.specs.Committing.{IsReason, IsUntouched, IsWrittenTo, MeetsFailure}
+use Rattle.br_keeper.specs.Committing.{IsReason, IsUntouched, IsWrittenTo, MeetsFailedLength, MeetsFailure}
 
 -- what backs a keeper: how its catalogue inserts and refuses rows, and what its volumes hold
 pub record Backing (C W : Type 0) : Type 1 where
@@ -45,7 +45,7 @@ module _ {C W : Type 0} where
   -- the catalogue is as before, and the volumes failed: at a length, or at an append, whose volume is retired
   abbrev pub AppendsFrontAndRetires : Backing C W → ToCommit → Keeping C W → Keeping C W → Type 0
   AppendsFrontAndRetires b c old new =
-      ((new.catalogue ≡ old.catalogue) × ((IsKept (b.shelf old) (b.shelf new) × ((b.shelf old).failures < (b.shelf new).failures))
+      ((new.catalogue ≡ old.catalogue) × (MeetsFailedLength (jobs_of old) c (b.shelf old) (b.shelf new)
       ⊎ MeetsFailure (jobs_of old) c (b.shelf old) (b.shelf new))) × (new.list ≡ all_published old.list)
 
   -- Nothing of the job is stored, for this reason. A job that waited is published, unless memory runs out

@@ -41,12 +41,13 @@ abbrev pub HasOtherLength : Option (List Volume) → List ℕ × ℕ → Type 0
 HasOtherLength None start = ⊤
 HasOtherLength (Some volumes) start = length (bytes_of_volume volumes start.0) ≡ start.1 → ⊥
 
--- The volume may be written to. Or it is retired, or has another length; or the store failed to
--- return its length.
+-- The volume may be written to. Or it is retired, or has another length; or it is not retired, and
+-- the store failed to return its length.
 abbrev pub ChecksVolume : List Vouch → Option (List Volume) → ℕ → ℕ → List ℕ × ℕ → Result (Unit {0}) KeeperFault → Type 0
 ChecksVolume vouches volumes before after start (Ok u) = IsVouched vouches volumes start
 ChecksVolume vouches volumes before after start (Err why) =
-    ((why ≡ RetiredVolume) × ((is_retired vouches start.0 ≡ true) ⊎ HasOtherLength volumes start)) ⊎ ((why ≡ VolumeFails) × (before < after))
+    ((why ≡ RetiredVolume) × ((is_retired vouches start.0 ≡ true) ⊎ HasOtherLength volumes start))
+    ⊎ ((why ≡ VolumeFails) × (is_retired vouches start.0 ≡ false) × (before < after))
 
 -- the first of the volumes that may not be written to
 pub record IsFirstRefused (vouches : List Vouch) (volumes : Option (List Volume)) (starts : List (List ℕ × ℕ)) (P : List ℕ × ℕ → Type 0) : Type 0 where
@@ -62,12 +63,16 @@ abbrev pub IsRetired : List Vouch → Option (List Volume) → List (List ℕ ×
 IsRetired vouches volumes starts =
     IsFirstRefused vouches volumes starts (λ start. (is_retired vouches start.0 ≡ true) ⊎ HasOtherLength volumes start)
 
+-- 44 before the first append: the volume is not retired, but its length is not known
+abbrev pub LacksLength : List Vouch → Option (List Volume) → List (List ℕ × ℕ) → Type 0
+LacksLength vouches volumes starts = IsFirstRefused vouches volumes starts (λ start. is_retired vouches start.0 ≡ false)
+
 -- All volumes may be written to; or one is retired, and those before it may be written to; or the
--- store failed.
+-- store failed to return the length of one, and those before it may be written to.
 abbrev pub ChecksVolumes : List Vouch → Option (List Volume) → ℕ → ℕ → List (List ℕ × ℕ) → Result (Unit {0}) KeeperFault → Type 0
 ChecksVolumes vouches volumes before after starts (Ok u) = AllByRecursion (IsVouched vouches volumes) starts
 ChecksVolumes vouches volumes before after starts (Err why) =
-    ((why ≡ RetiredVolume) × IsRetired vouches volumes starts) ⊎ ((why ≡ VolumeFails) × (before < after))
+    ((why ≡ RetiredVolume) × IsRetired vouches volumes starts) ⊎ ((why ≡ VolumeFails) × LacksLength vouches volumes starts × (before < after))
 
 -- ---- appends
 
@@ -128,13 +133,19 @@ pub record IsCutOffFrom (starts : List (List ℕ × ℕ)) (blocks : List (List �
   pub serve : AllByRecursion (IsVouched old.vouches old.volumes) starts
   pub cut_off : IsCutOff blocks (with_entries starts old) new
 
+-- the store failed to return the length of one of them, and nothing is changed
+pub record IsLengthRefused (starts : List (List ℕ × ℕ)) (old new : Shelf) : Type 0 where
+  pub kept : IsKept old new
+  pub first : LacksLength old.vouches old.volumes starts
+  pub failed : old.failures < new.failures
+
 -- Out of memory and 43 come before the first append; 44 if the store did not return a length, or an
 -- append failed.
 abbrev pub WritesBlocks : List (List ℕ × ℕ) → List (List ℕ × List ℕ) → Shelf → Shelf → Result (Unit {0}) KeeperFault → Type 0
 WritesBlocks starts blocks old new (Ok u) = AreWrittenFrom starts blocks old new
 WritesBlocks starts blocks old new (Err Memory) = IsKept old new
 WritesBlocks starts blocks old new (Err RetiredVolume) = IsKept old new × IsRetired old.vouches old.volumes starts
-WritesBlocks starts blocks old new (Err VolumeFails) = (IsKept old new × (old.failures < new.failures)) ⊎ IsCutOffFrom starts blocks old new
+WritesBlocks starts blocks old new (Err VolumeFails) = IsLengthRefused starts old new ⊎ IsCutOffFrom starts blocks old new
 WritesBlocks starts blocks old new (Err DuplicateJob) = ⊥
 WritesBlocks starts blocks old new (Err DuplicateSession) = ⊥
 WritesBlocks starts blocks old new (Err BadRow) = ⊥
