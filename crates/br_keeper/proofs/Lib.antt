@@ -1,7 +1,10 @@
 mod PreparingLaws
 mod VouchLaws
 mod WritingLaws
-mod HoldingLaws
+mod ReachingLaws
+mod EntryLaws
+mod StandingLaws
+pub mod HoldingLaws
 pub mod OutcomeLaws
 pub mod AddingLaws
 pub mod BeginningLaws

@@ -1,15 +1,17 @@
 -- The effect of serving, and the contents of a reply.
 use Rattle.std.specs.Prelude.{◌≡◌, ℕ, List, [], ◌∷◌, ◌++◌, Result, Ok, Err, Option, Some}
 use Rattle.logbook.specs.Pages.{Book}
-use Rattle.br_model.specs.Job.{JobRows}
+use Rattle.br_model.specs.Job.{JobRows, Job}
 use Rattle.br_history.specs.Saving.{ToCommit}
 use Rattle.br_keeper.specs.Beginnings.{Beginning, last_id}
 use Rattle.br_keeper.specs.Publishing.{Publishing}
 use Rattle.br_keeper.specs.declared.fault.KeeperFault.{KeeperFault}
+use Rattle.br_keeper.specs.declared.fault.KeeperFault.TheVariants.{StoredNotPublished}
 use Rattle.br_keeper.specs.Writing.{Shelf}
 use Rattle.br_keeper.specs.Keeping.{Keeping}
 use Rattle.br_keeper.specs.Committing.{Commits}
-use Rattle.br_keeper.specs.Holding.{HoldsJob}
+use Rattle.br_keeper.specs.Outcomes.{Backing}
+use Rattle.br_keeper.specs.Holding.{HoldsJob, Stands, job_with}
 
 -- the number of the job that was asked for, and the receipt or the refusal
 pub record Replied : Type 0 where
@@ -54,3 +56,25 @@ module _ {C W : Type 0} (inserts refuses : JobRows → C → C → Type 0) (shel
   -- the keeper after some commits
   abbrev pub IsLeftByCommits : Keeping C W → Keeping C W → Type 0
   IsLeftByCommits old new = (steps : List (Step C W)) × AreCommits steps old new
+
+-- a job is the first of these, and the others come after it
+abbrev pub IsFirst : ToCommit → (List Job → Type 0) → List Job → Type 0
+IsFirst c others jobs = (rows : JobRows) × (rest : List Job) × (jobs ≡ job_with c rows ∷ rest) × others rest
+
+-- the job is the first of these if it was stored, published or not
+abbrev pub StoresFirst : ToCommit → Result Beginning KeeperFault → (List Job → Type 0) → List Job → Type 0
+StoresFirst c (Ok receipt) others jobs = IsFirst c others jobs
+StoresFirst c (Err StoredNotPublished) others jobs = IsFirst c others jobs
+StoresFirst c (Err why) others jobs = others jobs
+
+module _ {C W : Type 0} where
+  -- these jobs were stored by the commits, one after the other, each with the files that it saved
+  abbrev pub AreStored : List (Step C W) → List Job → Type 0
+  AreStored [] jobs = jobs ≡ []
+  AreStored (step ∷ steps) jobs = StoresFirst step.job step.result (AreStored steps) jobs
+
+  -- a keeper that stood stands after commits, with the jobs that they stored
+  abbrev pub CommitsStand : Backing C W → Type 0
+  CommitsStand b =
+      (steps : List (Step C W)) (old new : Keeping C W) (jobs : List Job) → AreCommits b.inserts b.refuses b.shelf steps old new → Stands b.shelf jobs old
+      → (more : List Job) × AreStored steps more × Stands b.shelf (jobs ++ more) new

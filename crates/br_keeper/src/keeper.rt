@@ -5,7 +5,7 @@ ghost use Rattle.br_keeper.specs.Sessions.{AllKnow};
 ghost use Rattle.br_keeper.specs.Vouching.{vouched};
 ghost use Rattle.br_keeper.specs.Keeping.{IsNew, RepublishesKept, jobs_of, shelf_of};
 ghost use Rattle.br_keeper.specs.Committing.{Commits, IsNotMade, Stores};
-ghost use Rattle.br_keeper.specs.Holding.{HoldsJob};
+ghost use Rattle.br_keeper.specs.Holding.{HoldsJob, StandsIfHeld, StandsOn};
 ghost use Rattle.br_keeper.specs.Outcomes.{AppendsFrontAndRetires, IsEarly, OnlyAppends, Refuses, StoresAndPublishes, StoresUnpublished, backing};
 ghost use Rattle.br_keeper.specs.declared.fault.KeeperFault.TheVariants.{Store, StoredNotPublished, Volume};
 
@@ -62,6 +62,7 @@ impl<C: JobStore + Drop, W: VolumeStore + Drop> Keeper<C, W> {
         ensures keeper { IfOk result (λ r. IsNew volumes r.0) }
         ensures sessions { IfOk result (λ r. AllKnow r.0.list.book r.0.list.opening [] r.1.items × (length r.1.items ≡ sessions)) }
         ensures refused { IfErr result (λ why. IsNotMade C.loads catalogue why) }
+        ensures stands { IfOk result (λ r. StandsIfHeld (shelf_of W.holds W.failures) r.0) }
     {
         let mut catalogue = catalogue;
         let opening = catalogue.load_history()?;
@@ -171,6 +172,15 @@ impl<C: JobStore, W: VolumeStore> Keeper<C, W> {
     pub fn republish<R: Wait>(&mut self, rt: &R) -> Result<Option<Receipt>, KeeperFault>
         ensures list { MatchResult result (RepublishesKept self.old self.new)
             (λ why. (why ≡ KeeperFault.Memory) × (self.new ≡ self.old)) }
+        ensures stands { StandsOn (shelf_of W.holds W.failures) self.old self.new }
+    {
+        self.publish_waiting(rt)
+    }
+
+    /// Publishes the job that waits to be published.
+    fn publish_waiting<R: Wait>(&mut self, rt: &R) -> Result<Option<Receipt>, KeeperFault>
+        ensures { MatchResult result (RepublishesKept self.old self.new)
+            (λ why. (why ≡ KeeperFault.Memory) × (self.new ≡ self.old)) }
     {
         match self.listing.republish(rt) {
             Ok(receipt) => Ok(receipt),
@@ -189,6 +199,7 @@ impl<C: JobStore, W: VolumeStore> Keeper<C, W> {
         ensures refused { OnErr result (AppendsInPartTo vol.now bytes.now (W.holds self.old.volumes) (W.holds self.new.volumes)) }
         ensures failed { OnErr result (W.failures self.old.volumes < W.failures self.new.volumes) }
         ensures same { self.new ≡ record self.old { volumes = self.new.volumes } }
+        ensures stands { StandsOn (shelf_of W.holds W.failures) self.old self.new }
     {
         self.volumes.append(vol, bytes)
     }

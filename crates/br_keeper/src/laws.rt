@@ -1,0 +1,12 @@
+//! Facts about keepers. The calls do nothing: a caller makes one for its clauses.
+ghost use Rattle.br_keeper.specs.Outcomes.{backing};
+ghost use Rattle.br_keeper.specs.Channel.{CommitsStand};
+
+use crate::job_store::JobStore;
+use br_volume::VolumeStore;
+
+/// States that a keeper whose volumes hold the jobs that it has stored stands after any commits:
+/// its volumes then hold these jobs and all that the commits stored.
+pub fn commits_stand<C: JobStore, W: VolumeStore>()
+    ensures { CommitsStand (backing C.JobStore W.VolumeStore) }
+{}
