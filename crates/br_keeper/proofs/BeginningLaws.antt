@@ -3,6 +3,7 @@ use Rattle.std.proofs.Common.{◌≡◌, ℕ, zero, suc, ◌+◌, ◌≤◌, Lis
 use mathlib.Core.List.{IsPrefix}
 use Rattle.br_model.specs.Job.{JobRows}
 use Rattle.br_keeper.specs.Beginnings.{last_id}
+use Rattle.br_keeper.specs.Sessions.{ReceiptsAreShown}
 
 -- each list begins with itself
 pub prefix_self : {A : Type 0} (xs : List A) → IsPrefix xs xs
@@ -33,6 +34,10 @@ prefix_whole (x ∷ xs) (y ∷ ys) p le =
 pub prefix_length : {A : Type 0} (xs ys : List A) → IsPrefix xs ys → length xs ≤ length ys
 prefix_length xs ys p = omega (arith, sym (ap length p.1) ∙ length-append xs p.0)
 
+pub receipts_are_shown_lem : ReceiptsAreShown
+receipts_are_shown_lem receipt learned shown told more =
+    prefix_length receipt.log shown.list (prefix_trans receipt.log learned.list shown.list told more.1)
+
 -- what is in a beginning is in the whole, at the same place
 pub prefix_get : {A : Type 0} (xs ys : List A) (k : ℕ) (x : A) → IsPrefix xs ys → slice_get xs k ≡ Some x → slice_get ys k ≡ Some x
 prefix_get [] ys k x p h = absurd cc
@@ -51,6 +56,13 @@ pub no_last : (jobs : List JobRows) → None ≡ last_id jobs → jobs ≡ []
 no_last [] e = refl
 no_last (x ∷ []) e = absurd (cc)
 no_last (x ∷ y ∷ jobs) e = absurd (cc (no_last (y ∷ jobs) e))
+
+-- a beginning no longer than another beginning of the same list begins it
+pub prefix_within : {A : Type 0} (xs ys zs ws : List A) → IsPrefix xs zs → IsPrefix ys zs → IsPrefix zs ws → length ws ≤ length ys → IsPrefix xs ys
+prefix_within xs ys zs ws p q r le =
+    let a = prefix_length xs zs p in
+    let b = prefix_length zs ws r in
+    prefix_shorter xs ys zs p q (omega (arith, a, b, le))
 
 -- the length and the last job of a list that one was added to
 pub front_of_added : (count : ℕ) (old new : List JobRows) (job : JobRows) (id : ℕ) → count ≡ length old → new ≡ old ++ job ∷ [] → id ≡ job.row.id

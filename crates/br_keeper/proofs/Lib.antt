@@ -11,3 +11,4 @@ pub mod BeginningLaws
 pub mod LeadingLaws
 pub mod ShowingLaws
 mod ServedLaws
+mod ListingLaws

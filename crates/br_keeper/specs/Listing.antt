@@ -1,5 +1,6 @@
 -- A list of stored jobs, the last of which may wait for its publishing.
-use Rattle.std.specs.Prelude.{◌≡◌, List, [], ◌∷◌, ◌++◌, Option, MatchOption}
+use Rattle.std.specs.Prelude.{◌≡◌, ◌⊎◌, List, [], ◌∷◌, ◌++◌, Option, MatchOption}
+use mathlib.Core.List.{IsPrefix}
 use Rattle.br_model.specs.Job.{JobRows}
 use Rattle.br_keeper.specs.Beginnings.{Beginning, beginning}
 use Rattle.br_keeper.specs.Publishing.{Publishing, all_published, publishing, with_added}
@@ -16,11 +17,12 @@ and_waiting Taken jobs = jobs
 abbrev pub with_waiting : Publishing → Waiting → Publishing
 with_waiting p waiting = publishing p.book p.opening p.published (and_waiting waiting p.added)
 
--- a job that the publisher has taken waits exactly if not all jobs of the publisher are published
+-- a job that the publisher has taken waits exactly if not all jobs of the publisher are published,
+-- and then it is the only one
 abbrev pub IsListing : Publishing → Waiting → Type 0
 IsListing p Nothing = p.published ≡ p.added
 IsListing p (Stored rows) = p.published ≡ p.added
-IsListing p Taken = (p.published ≡ p.added → ⊥) × (p.added ≡ [] → ⊥)
+IsListing p Taken = (p.published ≡ p.added → ⊥) × (p.added ≡ [] → ⊥) × ((rows : JobRows) × (p.added ≡ p.published ++ rows ∷ []))
 
 -- all jobs of the publisher are published, or nothing is changed
 abbrev pub PublishesAdded : Publishing → Publishing → Waiting → Type 0
@@ -33,6 +35,13 @@ abbrev pub PublishesAll : Publishing → Waiting → Publishing → Waiting → 
 PublishesAll old waiting new Nothing = new ≡ all_published (with_waiting old waiting)
 PublishesAll old waiting new (Stored rows) = (with_waiting new (Stored rows) ≡ with_waiting old waiting) × IsListing new (Stored rows)
 PublishesAll old waiting new Taken = (with_waiting new Taken ≡ with_waiting old waiting) × IsListing new Taken
+
+-- A session knows no more jobs than are published, if none waits. While one waits, it knows no more
+-- than these and that one.
+abbrev pub KnowsStored : List JobRows → Publishing → Type 0
+KnowsStored list p =
+    ((p.published ≡ p.added) × IsPrefix list p.published)
+    ⊎ ((rows : JobRows) × (p.added ≡ p.published ++ rows ∷ []) × IsPrefix list (p.published ++ rows ∷ []))
 
 -- one more job is published with the others, and this is its receipt
 abbrev pub Announces : Publishing → JobRows → Publishing → Beginning → Type 0

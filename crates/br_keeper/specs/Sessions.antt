@@ -1,8 +1,9 @@
 -- How callers see a session or a snapshot.
-use Rattle.std.specs.Prelude.{◌≡◌, List, All}
+use Rattle.std.specs.Prelude.{◌≡◌, ◌≤◌, List, All, length}
 use mathlib.Core.List.{IsPrefix}
 use Rattle.logbook.specs.Pages.{Book}
 use Rattle.br_model.specs.Job.{JobRows}
+use Rattle.br_keeper.specs.Beginnings.{Beginning}
 
 -- the list that it reads, the jobs before that list, and the beginning of the list that it knows to
 -- be published
@@ -25,3 +26,10 @@ known book opening list = record { book = book; opening = opening; list = list }
 -- each of the sessions knows this
 abbrev pub AllKnow : Book → List JobRows → List JobRows → List Known → Type 0
 AllKnow book opening list sessions = All (λ (s : Known). s ≡ known book opening list) sessions
+
+-- what goes on from a session that has learned a receipt has at least as many jobs as the receipt
+-- counts
+abbrev pub ReceiptsAreShown : Type 0
+ReceiptsAreShown =
+    (receipt : Beginning) (learned shown : Known) → IsPrefix receipt.log learned.list → Extends learned shown
+    → length receipt.log ≤ length shown.list

@@ -2,6 +2,7 @@
 ghost use Rattle.std.specs.Prelude.{◌≡◌, ◌<◌, [], length, Err, IfErr, IfOk, Ok, OnErr, OnOk, MatchResult};
 ghost use Rattle.br_volume.specs.Store.{AppendsInPartTo, AppendsTo};
 ghost use Rattle.br_keeper.specs.Sessions.{AllKnow};
+ghost use Rattle.br_keeper.specs.Listing.{KnowsStored};
 ghost use Rattle.br_keeper.specs.Vouching.{vouched};
 ghost use Rattle.br_keeper.specs.Keeping.{IsNew, RepublishesKept, jobs_of, shelf_of};
 ghost use Rattle.br_keeper.specs.Committing.{Commits, IsNotMade, Stores};
@@ -202,6 +203,16 @@ impl<C: JobStore, W: VolumeStore> Keeper<C, W> {
         ensures stands { StandsOn (shelf_of W.holds W.failures) self.old self.new }
     {
         self.volumes.append(vol, bytes)
+    }
+
+    /// States that a session knows no more jobs than are published. While a job waits to be
+    /// published, the session knows no more than these and that job.
+    pub fn compare(&mut self, session: &Session)
+        requires { session.now.book ≡ self.old.list.book }
+        ensures same { self.new ≡ self.old }
+        ensures shown { KnowsStored session.now.list self.old.list }
+    {
+        self.listing.compare(session);
     }
 
     /// Returns the volumes for reading.

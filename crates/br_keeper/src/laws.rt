@@ -1,6 +1,7 @@
 //! Facts about keepers. The calls do nothing: a caller makes one for its clauses.
 ghost use Rattle.br_keeper.specs.Outcomes.{backing};
 ghost use Rattle.br_keeper.specs.Channel.{CommitsStand};
+ghost use Rattle.br_keeper.specs.Sessions.{ReceiptsAreShown};
 
 use crate::job_store::JobStore;
 use br_volume::VolumeStore;
@@ -9,4 +10,11 @@ use br_volume::VolumeStore;
 /// its volumes then hold these jobs and all that the commits stored.
 pub fn commits_stand<C: JobStore, W: VolumeStore>()
     ensures { CommitsStand (backing C.JobStore W.VolumeStore) }
+{}
+
+/// States that a snapshot shows at least as many jobs as each receipt counts that its session has
+/// learned.
+#[tactic(auto, using(crate::proofs::BeginningLaws::receipts_are_shown_lem))]
+pub fn receipts_are_shown()
+    ensures { ReceiptsAreShown }
 {}

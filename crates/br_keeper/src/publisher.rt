@@ -1,5 +1,5 @@
 //! The publisher, which has all jobs.
-ghost use Rattle.std.specs.Prelude.{◌≡◌, ◌++◌, [], ◌<◌, ◌⊎◌, length, IfOk, MatchResult, MatchOption, Some, None};
+ghost use Rattle.std.specs.Prelude.{◌≡◌, ◌++◌, [], ◌<◌, length, IfOk, MatchResult, MatchOption, Some, None};
 ghost use mathlib.Core.List.{IsPrefix};
 ghost use Rattle.left_right.specs.Sides.{view};
 ghost use Rattle.br_keeper.specs.Beginnings.{beginning};
@@ -8,7 +8,7 @@ ghost use Rattle.br_keeper.specs.Writers.{Shows, ShowsAsBefore, ShowsIfDone, lis
 ghost use Rattle.br_keeper.specs.Sessions.{AllKnow};
 ghost use Rattle.br_keeper.specs.Publishing.{all_published, publishing, with_added};
 
-use crate::beginnings::{Front, ListLength, open};
+use crate::beginnings::{Front, JobList};
 use crate::published::{Added, Begins, HistoryWriter, Published, Publishes};
 use crate::sessions::{Receipt, Session};
 use br_history::{History, JobRows};
@@ -24,9 +24,8 @@ const MOST: u64 = 1 << 32;
 /// A history, to which it adds jobs that it then publishes. It cannot be dropped: `close` ends it.
 pub struct Publisher {
     writer: Option<HistoryWriter>,
-    head: ListLength,
     /// All jobs that were added.
-    front: Front,
+    jobs: JobList,
     /// Those that are published.
     shown: Front,
     /// A job that the writer has not taken yet.
@@ -148,16 +147,17 @@ impl Publisher {
         ensures publisher { IfOk result (λ r. r.0 ≡ publishing r.0.book opening [] []) }
         ensures sessions { IfOk result (λ r. AllKnow r.0.book opening [] r.1.items × (length r.1.items ≡ sessions)) }
     {
-        let (head, front) = open();
+        let Some(jobs) = JobList::open() else {
+            return Err(AllocError);
+        };
         let known = Snapshot::of(&opening);
-        let mut writer = begin(rt, alloc, opening, &front, sessions)?;
-        match open_sessions(alloc, &mut writer, &front, sessions) {
+        let mut writer = begin(rt, alloc, opening, jobs.front(), sessions)?;
+        match open_sessions(alloc, &mut writer, jobs.front(), sessions) {
             Ok(list) => {
                 let publisher = Publisher {
                     writer: Some(writer),
-                    head,
-                    shown: front.again(),
-                    front,
+                    shown: jobs.front().again(),
+                    jobs,
                     unsent: None,
                     opening: known,
                 };
@@ -174,8 +174,7 @@ impl Publisher {
     pub fn close<R: Wait>(self, rt: &R) {
         let Publisher {
             writer,
-            head: _head,
-            front: _front,
+            jobs: _jobs,
             shown: _shown,
             unsent: _unsent,
             opening: _opening,
@@ -206,13 +205,13 @@ impl Publisher {
         }
     }
 
-    /// States that of two lists, the jobs that a session knows to be published and the added jobs,
-    /// one begins the other.
-    pub fn compare(&self, session: &Session)
-        requires { session.now.book ≡ self.now.book }
-        ensures { IsPrefix session.now.list self.now.added ⊎ IsPrefix self.now.added session.now.list }
+    /// States that the jobs which a session knows to be published begin the added jobs.
+    pub fn compare(&mut self, session: &Session)
+        requires { session.now.book ≡ self.old.book }
+        ensures same { self.new ≡ self.old }
+        ensures begins { IsPrefix session.now.list self.old.added }
     {
-        session.compare(&self.front);
+        session.compare(&mut self.jobs);
     }
 
     /// Adds a job, which is not published yet. It takes no memory.
@@ -223,17 +222,14 @@ impl Publisher {
     pub fn add(&mut self, rows: JobRows) -> Result<(), JobRows>
         ensures { MatchResult result (λ _. self.new ≡ with_added self.old rows) (λ back. (back ≡ rows) × (self.new ≡ self.old)) }
     {
-        if self.front.len() >= MOST || self.unsent.is_some() {
+        if self.jobs.front().len() >= MOST || self.unsent.is_some() {
             return Err(rows);
         }
-        let Some(front) = self.front.with(&self.head, &rows) else {
+        if !self.jobs.add(&rows) {
             return Err(rows);
-        };
-        self.unsent = Some(Added {
-            rows,
-            front: front.again(),
-        });
-        self.front = front;
+        }
+        let front = self.jobs.front().again();
+        self.unsent = Some(Added { rows, front });
         Ok(())
     }
 
@@ -255,7 +251,7 @@ impl Publisher {
             unsent,
             &self.opening,
             &self.shown,
-            &self.front,
+            self.jobs.front(),
         );
         let none = mem::replace(&mut self.writer, Some(writer));
         let None = none else { unreachable!() };
@@ -263,7 +259,7 @@ impl Publisher {
         if !done {
             return Err(AllocError);
         }
-        self.shown = self.front.again();
+        self.shown = self.jobs.front().again();
         Ok(())
     }
 }

@@ -1,5 +1,5 @@
 //! Sessions, the snapshots that they take and the receipts that they learn.
-ghost use Rattle.std.specs.Prelude.{◌≡◌, ◌++◌, ◌⊎◌, length, IfOk, MatchResult, Some};
+ghost use Rattle.std.specs.Prelude.{◌≡◌, ◌++◌, length, IfOk, MatchResult, Some};
 ghost use mathlib.Core.List.{IsPrefix};
 ghost use Rattle.left_right.specs.Sides.{view};
 ghost use Rattle.br_keeper.specs.Keeps.{knowing};
@@ -7,7 +7,7 @@ ghost use Rattle.br_keeper.specs.Beginnings.{last_id};
 ghost use Rattle.br_keeper.specs.Sessions.{Extends, known};
 ghost use Rattle.br_keeper.specs.Writers.{ShowsAsBefore};
 
-use crate::beginnings::Front;
+use crate::beginnings::{Front, JobList};
 use crate::published::{HistoryReader, HistoryReading, HistoryWriter, Notes, Sees};
 use br_history::History;
 use br_types::JobId;
@@ -109,16 +109,13 @@ impl Session {
         })
     }
 
-    /// States that of this beginning of the list and that of the session, one begins the other.
-    pub(crate) fn compare(&self, front: &Front)
-        requires { front.now.book ≡ self.now.book }
-        ensures { IsPrefix self.now.list front.now.log ⊎ IsPrefix front.now.log self.now.list }
+    /// States that what the session knows begins the list.
+    pub(crate) fn compare(&self, jobs: &mut JobList)
+        requires { self.now.book ≡ jobs.old.book }
+        ensures same { jobs.new ≡ jobs.old }
+        ensures begins { IsPrefix self.now.list jobs.old.log }
     {
-        if self.front.len() <= front.len() {
-            self.front.compare(front);
-        } else {
-            front.compare(&self.front);
-        }
+        jobs.cover(&self.front);
     }
 
     /// Learns a receipt: the session's snapshots contain the receipt's job from now on.
@@ -174,6 +171,14 @@ impl Snapshot {
         ensures { result.now ≡ self.now.opening ++ self.now.list }
     {
         &self.reading.get().history
+    }
+
+    /// Returns the number of jobs that were published since the keeper was made.
+    pub fn number(&self) -> u64
+        ensures { result ≡ length self.now.list }
+    {
+        let known = &self.front;
+        known.len()
     }
 
     /// Ends the snapshot, and returns its session.

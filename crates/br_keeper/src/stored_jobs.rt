@@ -3,7 +3,7 @@ ghost use Rattle.std.specs.Prelude.{◌≡◌, ◌<◌, ◌++◌, [], length, If
 ghost use Rattle.br_keeper.specs.Beginnings.{beginning};
 ghost use Rattle.br_keeper.specs.Publishing.{all_published, publishing, with_added};
 ghost use Rattle.br_keeper.specs.Sessions.{AllKnow};
-ghost use Rattle.br_keeper.specs.Listing.{Announces, IsListing, PublishesAdded, PublishesAll, Republishes};
+ghost use Rattle.br_keeper.specs.Listing.{Announces, IsListing, KnowsStored, PublishesAdded, PublishesAll, Republishes};
 
 use crate::publisher::Publisher;
 use crate::sessions::{Receipt, Session};
@@ -100,6 +100,15 @@ impl Listing {
         ensures { result.now ≡ self.now.opening ++ self.now.published }
     {
         self.publisher.history()
+    }
+
+    /// States that a session knows no more than what is published, and the job that waits.
+    pub(crate) fn compare(&mut self, session: &Session)
+        requires { session.now.book ≡ self.old.book }
+        ensures same { self.new ≡ self.old }
+        ensures shown { KnowsStored session.now.list self.old }
+    {
+        self.publisher.compare(session);
     }
 
     /// Returns the receipt of the last job that is published, if one was.
