@@ -1,7 +1,7 @@
 mod PreparingLaws
 mod VouchLaws
 mod WritingLaws
-mod ReachingLaws
+pub mod ReachingLaws
 mod EntryLaws
 mod StandingLaws
 pub mod HoldingLaws

@@ -11,7 +11,7 @@ use Rattle.br_model.specs.Stored.{IsSpanLaid, Holds}
 use Rattle.br_model.specs.SessionHolds.{bytes_of_volume}
 use Rattle.br_model.proofs.ListLaws.{all_map, all_weaker}
 use Rattle.br_model.proofs.SpanLaws.{everywhere, span_is_whole}
-use Rattle.br_keeper.specs.Holding.{AreBlocks, rows_in}
+use Rattle.br_keeper.specs.Holding.{AreBlocks, HeldVolumesAreWhole, rows_in}
 use Rattle.br_keeper.specs.Vouching.{end_in, end_of_jobs, end_of_spans}
 
 -- whole blocks up to the last byte are all the blocks
@@ -82,3 +82,6 @@ volumes_reach volumes name jobs hold =
     reaches_all bytes (λ (r : JobRows). end_of_spans name r.spans) 0 (rows_in jobs) (reaches_0 bytes)
     (all_map (λ (r : JobRows). Reaches bytes (end_of_spans name r.spans)) (λ (j : Job). j.rows) jobs
     (all_weaker (Holds volumes) (λ (j : Job). Reaches bytes (end_of_spans name j.rows.spans)) (job_reaches volumes name) jobs hold))
+
+pub held_volumes_are_whole_lem : HeldVolumesAreWhole
+held_volumes_are_whole_lem volumes jobs name hold ends = (volumes_reach volumes name jobs hold).1 ends

@@ -12,7 +12,7 @@ use Rattle.br_keeper.specs.Beginnings.{Beginning}
 use Rattle.br_keeper.specs.Publishing.{all_published, with_added}
 use Rattle.br_keeper.specs.declared.fault.KeeperFault.{KeeperFault}
 use Rattle.br_keeper.specs.declared.fault.KeeperFault.TheVariants.{Store, StoredNotPublished}
-use Rattle.br_keeper.specs.Vouching.{is_retired, vouched}
+use Rattle.br_keeper.specs.Vouching.{end_of_jobs, is_retired, vouched}
 use Rattle.br_keeper.specs.Writing.{Shelf}
 use Rattle.br_keeper.specs.Keeping.{Keeping, jobs_of}
 use Rattle.br_keeper.specs.Outcomes.{Backing}
@@ -37,6 +37,12 @@ pub record AreStanding (vouches : List Vouch) (rows : List JobRows) (jobs : List
   pub long : (name : List ℕ) → vouched vouches rows name ≤ length (bytes_of_volume volumes name)
   pub whole : (name : List ℕ) → is_retired vouches name ≡ false → vouched vouches rows name ≡ length (bytes_of_volume volumes name)
       → AreBlocks (bytes_of_volume volumes name)
+
+-- a volume that ends where the spans of the jobs do that it holds consists of whole blocks
+abbrev pub HeldVolumesAreWhole : Type 0
+HeldVolumesAreWhole =
+    (volumes : List Volume) (jobs : List Job) (name : List ℕ) → AllByRecursion (Holds volumes) jobs
+    → end_of_jobs name (rows_in jobs) ≡ length (bytes_of_volume volumes name) → AreBlocks (bytes_of_volume volumes name)
 
 -- the volumes hold the job, if they are told
 abbrev pub IsHeld : Option (List Volume) → Job → Type 0

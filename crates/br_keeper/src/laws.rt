@@ -1,10 +1,18 @@
 //! Facts about keepers. The calls do nothing: a caller makes one for its clauses.
 ghost use Rattle.br_keeper.specs.Outcomes.{backing};
 ghost use Rattle.br_keeper.specs.Channel.{CommitsStand};
+ghost use Rattle.br_keeper.specs.Holding.{HeldVolumesAreWhole};
 ghost use Rattle.br_keeper.specs.Sessions.{ReceiptsAreShown};
 
 use crate::job_store::JobStore;
 use br_volume::VolumeStore;
+
+/// States that a volume consists of whole blocks if it is just as long as the greatest end of the
+/// spans of jobs, and the volumes hold these jobs.
+#[tactic(auto, using(crate::proofs::ReachingLaws::held_volumes_are_whole_lem))]
+pub fn held_volumes_are_whole()
+    ensures { HeldVolumesAreWhole }
+{}
 
 /// States that a keeper whose volumes hold the jobs that it has stored stands after any commits:
 /// its volumes then hold these jobs and all that the commits stored.

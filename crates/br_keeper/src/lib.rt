@@ -43,6 +43,6 @@ pub use channel::{Ask, Naming, Reply, serve};
 pub use fault::KeeperFault;
 pub use job_store::{JobStore, JobStoreFault};
 pub use keeper::Keeper;
-pub use laws::{commits_stand, receipts_are_shown};
+pub use laws::{commits_stand, held_volumes_are_whole, receipts_are_shown};
 pub use publisher::Publisher;
 pub use sessions::{Receipt, Session, Snapshot};
