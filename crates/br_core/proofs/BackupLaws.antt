@@ -24,7 +24,7 @@ use Rattle.br_history.proofs.PreparingLaws.{only_memory, row_stays}
 use Rattle.br_history.proofs.StayWholeLaws.{volumes_stay_whole_lem, whole_volumes_are_ready_lem}
 use Rattle.br_core.specs.Machine.{World, IsCommitted, IsRefusedFor, job_rows, lengths_of}
 use Rattle.br_core.specs.Backups.{Committed, AreBackups, IsAdded, backups_of, job_with, jobs_of}
-use Rattle.br_core.specs.Committing.{CommitsTo, IsPrepared, Prepares}
+use Rattle.br_core.specs.Committing.{AppendsSession, CommitsTo, IsPrepared, Prepares}
 use Rattle.br_volume.proofs.AppendLaws.{in_turn_more}
 
 -- ---- a job is prepared
@@ -187,6 +187,21 @@ adds (Ok u) history history' commits commits' volumes later volumes' c rows star
 adds (Err why) history history' commits commits' volumes later volumes' c rows starts blocks given are starts_are given_are is appended extends answers ok err =
     let memory : why ≡ Memory = only_memory why (pushed history rows) (history ++ rows ∷ []) is.fits answers in
     rw (err.0, err.1, err.2, memory) ((refl, tt), are)
+
+-- the session of a job that is added was appended to the volumes before it
+pub appends : (r : Result (Unit {0}) HistoryFault) (history history' : List JobRows) (commits commits' : List Committed) (volumes later volumes' : List Volume) (c : ToCommit) (rows : JobRows)
+    (starts : List (List ℕ × ℕ)) (blocks given : List (List ℕ × Vec ℕ)) → starts ≡ lengths_of volumes → given ≡ blocks → IsPrepared history c starts rows (map seen blocks)
+    → AreAppended (map seen given) volumes later → OnOk r (IsAdded history commits rows (record { job = c; before = volumes }) later history' commits' volumes')
+    → OnOk r (AppendsSession volumes c volumes')
+appends (Ok u) history history' commits commits' volumes later volumes' c rows starts blocks given starts_are given_are is appended ok =
+    let prepared = subst (λ (s : List (List ℕ × ℕ)). IsPrepared history c s rows (map seen blocks)) starts_are is in
+    let all = subst (λ (bs : List (List ℕ × List ℕ)). AreAppended bs volumes later) (ap (map seen) given_are ∙ prepared.session.blocks_are) appended in
+    record {
+      written = prepared.session.written;
+      is_written = prepared.session.is_session.is_written.is_written;
+      appended = subst (λ (vs : List Volume). AreAppended prepared.session.written.blocks volumes vs) (sym ok.volumes_are) all;
+    }
+appends (Err why) history history' commits commits' volumes later volumes' c rows starts blocks given starts_are given_are is appended ok = tt
 
 -- ---- what is seen of the jobs and volumes
 

@@ -1,14 +1,17 @@
 -- A job with its session and rows, as it is committed.
-use Rattle.std.specs.Prelude.{◌≡◌, ℕ, ◌++◌, ◌∷◌, [], List, IfSome, Result, Ok, Err}
+use Rattle.std.specs.Prelude.{◌≡◌, ℕ, ◌++◌, ◌∷◌, [], List, IfSome, Result, Ok, Err, ⊤}
 use Rattle.std.specs.Global.{Vec}
 use Rattle.br_model.specs.Volume.{Volume}
 use Rattle.br_model.specs.Job.{JobRows, pushed}
 use Rattle.br_model.specs.PlanMeaning.{rows_of_jobs}
+use Rattle.br_model.specs.Session.{IsWritten, Written}
+use Rattle.br_model.specs.SessionHolds.{AreAppended}
 use Rattle.br_history.specs.Fault.{cause}
 use Rattle.br_history.specs.Preparing.{HasSession, seen}
 use Rattle.br_history.specs.Saving.{ToCommit}
 use Rattle.br_history.specs.declared.fault.HistoryFault.{HistoryFault}
-use Rattle.br_core.specs.Machine.{World, IsCommitted, IsRefusedFor, lengths_of}
+use Rattle.br_core.specs.Machine.{Event, World, IsCommitted, IsRefusedFor, lengths_of}
+use Rattle.br_core.specs.Machine.Event.{Commit}
 
 -- the rows of the job and its blocks, as its session has them; the job can be among the others
 pub record IsPrepared
@@ -30,3 +33,14 @@ Prepares history c starts (Err why) =
 abbrev pub CommitsTo : World → ToCommit → World → Result (Unit {0}) HistoryFault → Type 0
 CommitsTo before c after (Ok u) = IsCommitted before c before.volumes after
 CommitsTo before c after (Err why) = (after ≡ before) × IfSome (cause why) (IsRefusedFor before c before.volumes)
+
+-- the session of the job is written to the volumes, and each of its blocks is appended once
+pub record AppendsSession (before : List Volume) (c : ToCommit) (after : List Volume) : Type 0 where
+  pub written : Written
+  pub is_written : IsWritten c.files c.row.session c.limit c.places (lengths_of before) written
+  pub appended : AreAppended written.blocks before after
+
+-- a commit appends the session of its job, and nothing else
+abbrev pub AppendsIfCommit : List Volume → Event → List Volume → Type 0
+AppendsIfCommit before (Commit c) after = AppendsSession before c after
+AppendsIfCommit before event after = ⊤

@@ -9,7 +9,7 @@ ghost use Rattle.br_history.specs.Committing.{AreWhole};
 ghost use Rattle.br_core.specs.Machine.{stages_of};
 ghost use Rattle.br_core.specs.Reached.{nothing};
 ghost use Rattle.br_core.specs.Backups.{AddsJob};
-ghost use Rattle.br_core.specs.Committing.{CommitsTo};
+ghost use Rattle.br_core.specs.Committing.{AppendsSession, CommitsTo};
 
 use crate::committing::{appended, lengths, prepared};
 use br_history::{History, HistoryFault, JobRows, SavedJob};
@@ -110,6 +110,7 @@ impl Backups {
     /// After a refusal nothing has changed.
     pub(crate) fn commit(&mut self, job: SavedJob) -> Result<(), HistoryFault>
         ensures committed { CommitsTo self.old job self.new result }
+        ensures appends { OnOk result (AppendsSession self.old.volumes job self.new.volumes) }
         ensures each { length self.old.jobs ≡ length self.old.earlier }
         ensures whole { AreWhole self.new.volumes }
     {

@@ -1,8 +1,9 @@
 //! The steps of the machine, over its parts: the backups and the restores under their numbers.
-ghost use Rattle.std.specs.Prelude.{map, option_map};
+ghost use Rattle.std.specs.Prelude.{map, option_map, OnOk};
 ghost use Rattle.br_mark.specs.Said.{said};
 ghost use Rattle.br_volume.specs.Memory.{volumes_of};
 ghost use Rattle.br_history.specs.Committing.{AreWhole};
+ghost use Rattle.br_core.specs.Committing.{AppendsIfCommit, AppendsSession};
 ghost use Rattle.br_core.specs.Happening.{event_of};
 ghost use Rattle.br_core.specs.Machine.Event.{Deliver, Finish, Plan, Read};
 ghost use Rattle.br_core.specs.Reached.{IsReached};
@@ -24,6 +25,7 @@ use std::thread::Threads;
 /// Commits a job. No restore is changed.
 fn commit_job(backups: &mut Backups, job: SavedJob) -> Result<Reply, StepFault>
     ensures step { CommitsBeside backups.old job backups.new result }
+    ensures appends { OnOk result (AppendsSession backups.old.volumes job backups.new.volumes) }
     ensures whole { AreWhole backups.new.volumes }
 {
     backups.commit(job)?;
@@ -140,6 +142,7 @@ pub(crate) fn take_step(
 ) -> Result<Reply, StepFault>
     requires { IsReached (world_with backups.old restores.old.items) }
     ensures step { TakesStep (world_with backups.old restores.old.items) (event_of event) (world_with backups.new restores.new.items) result }
+    ensures appends { OnOk result (AppendsIfCommit backups.old.volumes (event_of event) backups.new.volumes) }
     ensures whole { AreWhole backups.new.volumes }
 {
     match event {

@@ -1,5 +1,6 @@
 //! The running machine.
-ghost use Rattle.std.specs.Prelude.{◌≡◌, IfOk};
+ghost use Rattle.std.specs.Prelude.{◌≡◌, IfOk, OnOk};
+ghost use Rattle.br_core.specs.Committing.{AppendsIfCommit};
 ghost use Rattle.br_core.specs.Happening.{event_of, reply_of};
 ghost use Rattle.br_core.specs.Reached.{IsReached, nothing};
 ghost use Rattle.br_core.specs.Running.{AllHaveHits, GivesSelected, HoweverReached};
@@ -60,6 +61,7 @@ impl World {
     /// enabled if the restore does not exist or is over, or does not meet the event's conditions.
     pub fn step(&mut self, rt: &(impl Threads + Sync), event: Event) -> Result<Reply, StepFault>
         ensures step { TakesStep self.old (event_of event) self.new result }
+        ensures appends { OnOk result (AppendsIfCommit self.old.volumes (event_of event) self.new.volumes) }
         ensures reached { IsReached self.new }
         ensures delivers { IfOk result (λ reply. HoweverReached self.old (GivesSelected self.old (event_of event) (reply_of reply))) }
         ensures hits { HoweverReached self.new (AllHaveHits self.new) }

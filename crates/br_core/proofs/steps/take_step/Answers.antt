@@ -6,6 +6,9 @@ use Rattle.br_core.proofs.steps.take_step.Goals as goal
 pub returns-in-Commit-clause-step : goal.returns-in-Commit-clause-step
 returns-in-Commit-clause-step g c = rw (c.in-Commit.is) (c.commit_job.ensures.step c.args.restores.now.items c.requires)
 
+pub returns-in-Commit-clause-appends : goal.returns-in-Commit-clause-appends
+returns-in-Commit-clause-appends g c = rw (c.in-Commit.is) c.commit_job.ensures.appends
+
 pub returns-in-Plan-clause-whole : goal.returns-in-Plan-clause-whole
 returns-in-Plan-clause-whole g c = c.requires.whole
 

@@ -1,9 +1,9 @@
-use Rattle.std.proofs.Common.{ap, subst, ◌∙◌}
+use Rattle.std.proofs.Common.{OnOk, ap, subst, ◌∙◌}
 use Rattle.std.proofs.lemmas.Result.{err_from_is_err_and}
 use Rattle.br_core.specs.Machine.{World, lengths_of}
 use Rattle.br_core.specs.Backups.{backups_of}
-use Rattle.br_core.specs.Committing.{CommitsTo}
-use Rattle.br_core.proofs.BackupLaws.{adds, are_whole, as_many, refuses}
+use Rattle.br_core.specs.Committing.{AppendsSession, CommitsTo}
+use Rattle.br_core.proofs.BackupLaws.{adds, appends, are_whole, as_many, refuses}
 use Rattle.br_core.proofs.backups.Backups.commit.Goals as goal
 
 pub returns-in_err-starts-clause-each : goal.returns-in_err-starts-clause-each
@@ -48,6 +48,15 @@ returns-clause-committed c =
     (adds c.add.result old.history new.history old.commits.items new.commits.items old.volumes.volumes c.in_ok-later.later.volumes new.volumes.volumes c.args.job c.in_ok-rows.rows
     c.deref.result.now c.in_ok-rows.blocks.items c.deref-2.result.now c.self.invariant starts c.deref-2.ensures.value c.in_ok-rows.ensures c.in_ok-later.ensures.appended
     c.in_ok-later.ensures.extend c.add.ensures.answers c.add.ensures.ok c.add.ensures.err).0
+
+pub returns-clause-appends : goal.returns-clause-appends
+returns-clause-appends c =
+    let old = c.self.inside in
+    let new = c.add.new in
+    let starts = c.deref.ensures.value ∙ c.in_ok-starts.ensures ∙ ap lengths_of c.volumes.ensures in
+    subst (λ (w : World). OnOk c.add.result (AppendsSession w.volumes c.args.job new.volumes.volumes)) c.self.view_is
+    (appends c.add.result old.history new.history old.commits.items new.commits.items old.volumes.volumes c.in_ok-later.later.volumes new.volumes.volumes c.args.job c.in_ok-rows.rows
+    c.deref.result.now c.in_ok-rows.blocks.items c.deref-2.result.now starts c.deref-2.ensures.value c.in_ok-rows.ensures c.in_ok-later.ensures.appended c.add.ensures.ok)
 
 pub returns-clause-each : goal.returns-clause-each
 returns-clause-each c = as_many c.args.self.now _ _ _ c.self.view_is c.self.invariant

@@ -1,4 +1,5 @@
-use Rattle.std.proofs.Common.{subst, rules}
+use Rattle.std.proofs.Common.{OnOk, subst, rules}
+use Rattle.br_core.specs.Committing.{AppendsIfCommit}
 use Rattle.br_core.specs.Happening.{event_of}
 use Rattle.br_core.specs.Machine.{World}
 use Rattle.br_core.specs.Stepping.{TakesStep, world_with}
@@ -19,6 +20,10 @@ invariant_of-self g c =
 pub returns-clause-step : goal.returns-clause-step
 returns-clause-step g c =
     subst (λ (w : World). TakesStep w (event_of c.args.event) (world_with c.take_step.new.backups c.take_step.new.restores.items) c.take_step.result) c.self.view_is c.take_step.ensures.step
+
+pub returns-clause-appends : goal.returns-clause-appends
+returns-clause-appends g c =
+    subst (λ (w : World). OnOk c.take_step.result (AppendsIfCommit w.volumes (event_of c.args.event) c.take_step.new.backups.volumes)) c.self.view_is c.take_step.ensures.appends
 
 pub returns-clause-reached : goal.returns-clause-reached
 returns-clause-reached g c = invariant_of-self g c
