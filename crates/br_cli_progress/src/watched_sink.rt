@@ -145,7 +145,7 @@ impl<'g, 'r, S: Sink> Sink for WatchedSink<'g, 'r, S> {
         match &put {
             Ok(_) => self.gauge.note_file_put(item),
             Err(PartsFault::Fault) => note_failed(self.gauge, &mut self.failed, item),
-            Err(PartsFault::Memory | PartsFault::NoDriveLeft) => {}
+            Err(PartsFault::Memory | PartsFault::NoDriveLeft | PartsFault::Changed) => {}
         }
         put
     }

@@ -245,7 +245,7 @@ module _ (os : List (FileKey × Outcome)) (place files : ℕ) (stands : StandApa
 
   pub in_the_way_is : place < length os → IsStopIn (items_in os) (record { number = 81; done = files })
   in_the_way_is more = record {
-    number = inr (inr (inl refl));
+    number = inr (inr refl);
     within = stands.within more;
     before = subst AreApart (sym (taken_items os place files (omega (arith, stands.many)))) (apart_taken (items_in (take place os)) files stands.apart);
     at_it = λ other. absurd (other refl);

@@ -38,11 +38,11 @@ pub record StandApart (outcomes : List (FileKey × Outcome)) (place files : ℕ)
   pub within : place < length outcomes → files < length (items_in outcomes)
   pub next : place < length outcomes → put_behind [] (items_in outcomes) ≡ Err (record { number = 81; done = files })
 
--- A stop is at one of the files: memory ran out (1), no drive is left that gives the data of the
--- file (70), the sink failed (80), or the path conflicts (81). No paths of the files before it
--- conflict, and its own path conflicts with one of them only if the stop is 81.
+-- A stop is at one of the files: memory ran out (1), the sink failed (80), or the path conflicts
+-- (81). No paths of the files before it conflict, and its own path conflicts with one of them only if
+-- the stop is 81.
 pub record IsStopIn (items : List model.Item) (stop : Stop) : Type 0 where
-  pub number : (stop.number ≡ 1) ⊎ (stop.number ≡ 80) ⊎ (stop.number ≡ 81) ⊎ (stop.number ≡ 70)
+  pub number : (stop.number ≡ 1) ⊎ (stop.number ≡ 80) ⊎ (stop.number ≡ 81)
   pub within : stop.done < length items
   pub before : AreApart (take stop.done items)
   pub at_it : (stop.number ≡ 81 → ⊥) → AreApart (take (stop.done + 1) items)

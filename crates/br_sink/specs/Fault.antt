@@ -16,7 +16,6 @@ abbrev pub cause_number : StopCause → ℕ
 cause_number stop.Memory = 1
 cause_number stop.Fault = 80
 cause_number stop.Conflict = 81
-cause_number stop.NoDriveLeft = 70
 
 -- the fault of a file, with the stream that it names
 abbrev pub fault_of : ℕ → ℕ → model.Fault

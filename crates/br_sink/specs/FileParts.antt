@@ -13,6 +13,7 @@ abbrev pub parts_number : PartsFault → ℕ
 parts_number parts.Memory = 1
 parts_number parts.Fault = 80
 parts_number parts.NoDriveLeft = 70
+parts_number parts.Changed = 72
 
 -- the fault of a sink that puts a file part by part
 abbrev pub parts_fault : SinkFault → PartsFault

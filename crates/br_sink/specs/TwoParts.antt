@@ -43,6 +43,10 @@ why_of (Both x y) = None
 why_of (One x why) = Some why
 why_of (Neither why) = Some why
 
+-- no file of the two was refused since its bytes are no longer those that were found
+abbrev pub NotChanged : TwoPut → Type 0
+NotChanged two = why_of two ≡ Some parts.Changed → ⊥
+
 -- a file of the two was not put since the sink failed
 abbrev pub FailsTwo : Option TwoPut → Type 0
 FailsTwo None = ⊥

@@ -46,9 +46,6 @@ pub enum StopCause {
     /// Its path conflicts with one put before.
     #[error("the path conflicts with one put before")]
     Conflict,
-    /// No drive is left that gives its data again as they were found.
-    #[error("no drive is left that gives the data of the file")]
-    NoDriveLeft,
 }
 
 impl From<AllocError> for StopCause {
@@ -101,8 +98,8 @@ impl SinkStop {
         self.cause
     }
 
-    /// Returns the number of the refusal: 1 out of memory, 70 no drive left that gives the data of the
-    /// file, 80 a sink that failed, 81 a path that conflicts with one put before.
+    /// Returns the number of the refusal: 1 out of memory, 80 a sink that failed, 81 a path that conflicts
+    /// with one put before.
     pub fn number(&self) -> u32
         ensures { result ≡ self.now.number }
     {
@@ -110,7 +107,6 @@ impl SinkStop {
             StopCause::Memory => 1,
             StopCause::Fault => 80,
             StopCause::Conflict => 81,
-            StopCause::NoDriveLeft => 70,
         }
     }
 

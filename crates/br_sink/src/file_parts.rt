@@ -2,11 +2,10 @@
 ghost use Rattle.std.specs.Prelude.{◌≡◌, Err, IfOk, OnErr};
 ghost use Rattle.std.specs.Io.KnownBytes.{Appends};
 ghost use Rattle.br_model.specs.File as model;
-ghost use Rattle.br_sink.specs.Fault.{cause_number};
 ghost use Rattle.br_sink.specs.FileParts.{AreAlike, WritesSome, parts_fault, parts_number, with_bytes};
 ghost use Rattle.br_sink.specs.declared.file_parts.PartsFault.TheVariants as why;
 
-use crate::fault::{SinkFault, StopCause};
+use crate::fault::SinkFault;
 use br_join::{FileBytes, Item};
 use std::alloc::{AllocError, Global};
 use std::io::Write;
@@ -19,20 +18,25 @@ pub enum PartsFault {
     Memory,
     #[error("the sink failed to put a file")]
     Fault,
-    /// No drive is left that gives its bytes as they were found.
+    /// No drive is left that gives its bytes.
     #[error("no drive is left that gives the data of the file")]
     NoDriveLeft,
+    /// Its bytes are no longer those that were found.
+    #[error("a volume was changed while it was read")]
+    Changed,
 }
 
 impl PartsFault {
-    /// Returns why a delivery stops at the file.
-    pub fn cause(self) -> StopCause
-        ensures { cause_number result ≡ parts_number self }
+    /// Returns the number of the refusal: 1 out of memory, 70 no drive left, 72 a volume that was
+    /// changed, 80 a sink that failed.
+    pub fn number(self) -> u32
+        ensures { result ≡ parts_number self }
     {
         match self {
-            PartsFault::Memory => StopCause::Memory,
-            PartsFault::Fault => StopCause::Fault,
-            PartsFault::NoDriveLeft => StopCause::NoDriveLeft,
+            PartsFault::Memory => 1,
+            PartsFault::Fault => 80,
+            PartsFault::NoDriveLeft => 70,
+            PartsFault::Changed => 72,
         }
     }
 }
@@ -71,7 +75,8 @@ pub trait Parts {
     ///
     /// Some bytes may be written, at most as many as the item has.
     ///
-    /// - `NoDriveLeft` if no drive is left that gives such bytes.
+    /// - `NoDriveLeft` if each drive failed.
+    /// - `Changed` if a drive gives other bytes. One that gives the bytes of the item is never refused so.
     /// - `Fault` if the writer failed.
     /// - `Memory` if memory ran out, also that of the writer.
     fn write_to<W: Write>(&mut self, item: &Item, writer: &mut W) -> Result<FileBytes, PartsFault>
@@ -79,6 +84,7 @@ pub trait Parts {
         ensures alike { IfOk result (λ bytes. AreAlike bytes item.now.bytes) }
         ensures same { IfOk result (λ bytes. gives self.old item.now → bytes ≡ item.now.bytes) }
         ensures front { OnErr result (WritesSome item.now.bytes (W.contents writer.old) (W.contents writer.new)) }
+        ensures changed { result ≡ Err why.Changed → gives self.old item.now → ⊥ }
         ensures on { goes_on self.old self.new };
 
     /// The state may stay the same: then nothing was read.
@@ -89,17 +95,19 @@ pub trait Parts {
 ///
 /// # Errors
 ///
-/// `NoDriveLeft` and `Memory`, as `Parts::write_to`.
+/// `NoDriveLeft`, `Changed` and `Memory`, as `Parts::write_to`.
 fn read_all<P: Parts>(alloc: Global, item: &Item, parts: &mut P) -> Result<Vec<u8>, PartsFault>
     ensures alike { IfOk result (λ bytes. AreAlike bytes.items item.now.bytes) }
     ensures same { IfOk result (λ bytes. P.gives parts.old item.now → bytes.items ≡ item.now.bytes) }
     ensures never { result ≡ Err why.Fault → ⊥ }
+    ensures changed { result ≡ Err why.Changed → P.gives parts.old item.now → ⊥ }
     ensures on { P.goes_on parts.old parts.new }
 {
     let mut bytes = Vec::new(alloc);
     match parts.write_to(item, &mut bytes) {
         Ok(_) => Ok(bytes),
         Err(PartsFault::NoDriveLeft) => Err(PartsFault::NoDriveLeft),
+        Err(PartsFault::Changed) => Err(PartsFault::Changed),
         Err(PartsFault::Memory | PartsFault::Fault) => Err(PartsFault::Memory),
     }
 }
@@ -122,7 +130,7 @@ fn item_with(alloc: Global, item: &Item, bytes: Vec<u8>) -> Result<Item, AllocEr
 ///
 /// # Errors
 ///
-/// `NoDriveLeft` and `Memory`, as `Parts::write_to`.
+/// `NoDriveLeft`, `Changed` and `Memory`, as `Parts::write_to`.
 pub(crate) fn whole_of<P: Parts>(
     alloc: Global,
     item: &Item,
@@ -132,6 +140,7 @@ pub(crate) fn whole_of<P: Parts>(
     ensures alike { IfOk result (λ made. AreAlike made.bytes item.now.bytes) }
     ensures same { IfOk result (λ made. P.gives parts.old item.now → made.bytes ≡ item.now.bytes) }
     ensures never { result ≡ Err why.Fault → ⊥ }
+    ensures changed { result ≡ Err why.Changed → P.gives parts.old item.now → ⊥ }
     ensures on { P.goes_on parts.old parts.new }
 {
     let bytes = read_all(alloc, item, parts)?;

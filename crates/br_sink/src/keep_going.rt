@@ -5,7 +5,7 @@ ghost use Rattle.br_types.specs.declared.wanted.Stops.TheVariants.{AtFirst};
 ghost use Rattle.br_sink.specs.Delivery.{IsStopBelow, items_in, items_put};
 ghost use Rattle.br_sink.specs.FileParts.{AreAlike, with_bytes};
 ghost use Rattle.br_sink.specs.Sink.{HasMore};
-ghost use Rattle.br_sink.specs.TwoParts.{AreTwoAlike, AreTwoSame, FailsTwo, two_put};
+ghost use Rattle.br_sink.specs.TwoParts.{AreTwoAlike, AreTwoSame, FailsTwo, NotChanged, two_put};
 ghost use Rattle.br_sink.specs.declared.fault.SinkFault.TheVariants.{Fault};
 ghost use Rattle.br_sink.specs.declared.file_parts.PartsFault.TheVariants as why;
 ghost use Rattle.br_sink.specs.KeepGoing.{ArePut};
@@ -124,6 +124,7 @@ impl<S: Sink + Drop> Sink for Leaving<S> {
         ensures refused { OnErr result (Some self.new.taken ≡ Some self.old.taken) }
         ensures counted { S.failures self.old.inner ≤ S.failures self.new.inner }
         ensures failed { result ≡ Err why.Fault → S.failures self.old.inner < S.failures self.new.inner }
+        ensures changed { result ≡ Err why.Changed → P.gives parts.old item.now → ⊥ }
         ensures on { P.goes_on parts.old parts.new }
         ensures first { result ≡ Err why.Fault → self.old.stops ≡ AtFirst }
         ensures stops { self.new.stops ≡ self.old.stops }
@@ -153,6 +154,7 @@ impl<S: Sink + Drop> Sink for Leaving<S> {
         ensures same { P.gives parts.old one.now other.now → IfSome result (AreTwoSame one.now other.now) }
         ensures counted { S.failures self.old.inner ≤ S.failures self.new.inner }
         ensures failed { FailsTwo result → S.failures self.old.inner < S.failures self.new.inner }
+        ensures changed { P.gives parts.old one.now other.now → IfSome result NotChanged }
         ensures on { P.goes_on parts.old parts.new }
         ensures first { FailsTwo result → self.old.stops ≡ AtFirst }
         ensures stops { self.new.stops ≡ self.old.stops }

@@ -6,7 +6,7 @@ ghost use Rattle.br_sink.specs.Delivery.{IsStopBelow, items_in, items_put};
 ghost use Rattle.br_sink.specs.declared.fault.SinkFault.TheVariants.{Fault};
 ghost use Rattle.br_sink.specs.Fault.{cause_number};
 ghost use Rattle.br_sink.specs.FileParts.{AreAlike, with_bytes};
-ghost use Rattle.br_sink.specs.TwoParts.{AreTwoAlike, AreTwoSame, FailsTwo, two_put};
+ghost use Rattle.br_sink.specs.TwoParts.{AreTwoAlike, AreTwoSame, FailsTwo, NotChanged, two_put};
 ghost use Rattle.br_sink.specs.declared.file_parts.PartsFault.TheVariants as why;
 ghost use Rattle.br_sink.specs.KeepGoing.{Leaves, NotesStop, StaysNoted, Takes, passed};
 
@@ -89,6 +89,7 @@ fn leave_parts_at(
     ensures left { OnOk result ((fault ≡ why.Fault) × Leaves noted.old noted.new item.now) }
     ensures none { OnErr result (Takes noted.old noted.new []) }
     ensures fault { result ≡ Err why.Fault → (fault ≡ why.Fault) × (stops ≡ AtFirst) }
+    ensures changed { result ≡ Err why.Changed → fault ≡ why.Changed }
     ensures kept { stops ≡ AtFirst → noted.new.left.items ≡ noted.old.left.items }
 {
     match fault {
@@ -98,6 +99,7 @@ fn leave_parts_at(
         }
         PartsFault::Memory => Err(PartsFault::Memory),
         PartsFault::NoDriveLeft => Err(PartsFault::NoDriveLeft),
+        PartsFault::Changed => Err(PartsFault::Changed),
     }
 }
 
@@ -119,6 +121,7 @@ pub(crate) fn put_one_by_parts<S: Sink, P: Parts>(
     ensures counted { S.failures sink.old ≤ S.failures sink.new }
     ensures failed { result ≡ Err why.Fault → S.failures sink.old < S.failures sink.new }
     ensures first { result ≡ Err why.Fault → stops ≡ AtFirst }
+    ensures changed { result ≡ Err why.Changed → P.gives parts.old item.now → ⊥ }
     ensures kept { stops ≡ AtFirst → noted.new.left.items ≡ noted.old.left.items }
     ensures on { P.goes_on parts.old parts.new }
 {
@@ -153,6 +156,7 @@ pub(crate) fn put_two_noted<S: Sink, P: TwoParts>(
     ensures noted { StaysNoted S.has S.failures sink.old sink.new noted.old noted.new }
     ensures counted { S.failures sink.old ≤ S.failures sink.new }
     ensures failed { FailsTwo result → S.failures sink.old < S.failures sink.new }
+    ensures changed { P.gives parts.old one.now other.now → IfSome result NotChanged }
     ensures kept { noted.new.left.items ≡ noted.old.left.items }
     ensures on { P.goes_on parts.old parts.new }
 {

@@ -4,7 +4,7 @@ ghost use Rattle.br_model.specs.File as model;
 ghost use Rattle.br_sink.specs.Delivery.{IsStopBelow, items_in, items_put};
 ghost use Rattle.br_sink.specs.FileParts.{AreAlike, with_bytes};
 ghost use Rattle.br_sink.specs.Sink.{HasMore};
-ghost use Rattle.br_sink.specs.TwoParts.{AreTwoAlike, AreTwoSame, FailsTwo, two_put};
+ghost use Rattle.br_sink.specs.TwoParts.{AreTwoAlike, AreTwoSame, FailsTwo, NotChanged, two_put};
 ghost use Rattle.br_sink.specs.declared.fault.SinkFault.TheVariants.{Fault};
 ghost use Rattle.br_sink.specs.declared.file_parts.PartsFault.TheVariants as why;
 
@@ -70,9 +70,9 @@ pub trait Sink {
     /// Adds a file like this one, whose bytes are read again while it is put, and returns these. A
     /// sink that keeps no files in memory has one part of them in memory at a time.
     ///
-    /// `NoDriveLeft` if the bytes are not given as they were found. Then, and after `Fault` and
-    /// `Memory`, the sink has what it had; one that does not report its files may hold a part of
-    /// this one.
+    /// `NoDriveLeft` if each drive failed, `Changed` if the bytes are not given as they were found.
+    /// Then, and after `Fault` and `Memory`, the sink has what it had; one that does not report its
+    /// files may hold a part of this one.
     fn put_parts<P: Parts>(
         &mut self,
         alloc: Global,
@@ -85,6 +85,7 @@ pub trait Sink {
         ensures refused { OnErr result (has self.new ≡ has self.old) }
         ensures counted { failures self.old ≤ failures self.new }
         ensures failed { result ≡ Err why.Fault → failures self.old < failures self.new }
+        ensures changed { result ≡ Err why.Changed → P.gives parts.old item.now → ⊥ }
         ensures on { P.goes_on parts.old parts.new }
     {
         let whole = whole_of(alloc, item, parts)?;
@@ -112,6 +113,7 @@ pub trait Sink {
         ensures same { P.gives parts.old one.now other.now → IfSome result (AreTwoSame one.now other.now) }
         ensures counted { failures self.old ≤ failures self.new }
         ensures failed { FailsTwo result → failures self.old < failures self.new }
+        ensures changed { P.gives parts.old one.now other.now → IfSome result NotChanged }
         ensures on { P.goes_on parts.old parts.new }
     {
         None

@@ -1,7 +1,7 @@
 //! Two files whose bytes are read again, side by side, while both are put.
 ghost use Rattle.std.specs.Prelude.{◌≡◌};
 ghost use Rattle.br_model.specs.File as model;
-ghost use Rattle.br_sink.specs.TwoParts.{AreTwoAlike, AreTwoSame, WritesTwo, held_by, why_of};
+ghost use Rattle.br_sink.specs.TwoParts.{AreTwoAlike, AreTwoSame, NotChanged, WritesTwo, held_by, why_of};
 
 use crate::file_parts::PartsFault;
 use br_join::{FileBytes, Item};
@@ -45,7 +45,8 @@ pub trait TwoParts {
     /// file that is not put some bytes may be written, at most as many as the item has. The reason
     /// is
     ///
-    /// - `NoDriveLeft` if no drive is left that gives such bytes.
+    /// - `NoDriveLeft` if each drive failed.
+    /// - `Changed` if a drive gives other bytes. Those that give the bytes of both are never refused so.
     /// - `Fault` if the writer failed.
     /// - `Memory` if memory ran out, also that of the writer.
     fn write_both<W: Write>(
@@ -58,6 +59,7 @@ pub trait TwoParts {
         ensures written { WritesTwo one.now other.now (held_by W.contents first.old second.old) (held_by W.contents first.new second.new) result }
         ensures alike { AreTwoAlike one.now other.now result }
         ensures same { gives self.old one.now other.now → AreTwoSame one.now other.now result }
+        ensures changed { gives self.old one.now other.now → NotChanged result }
         ensures on { goes_on self.old self.new };
 
     /// The state may stay the same: then nothing was read.

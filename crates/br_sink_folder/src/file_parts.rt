@@ -1,10 +1,11 @@
 //! Puts a file whose bytes are read again, part by part, while it is written.
-ghost use Rattle.std.specs.Prelude.{◌≡◌, true, false, IfOk, OnErr, OnOk};
+ghost use Rattle.std.specs.Prelude.{◌≡◌, true, false, IfOk, OnErr, OnOk, Err};
 ghost use Rattle.std.specs.Str.{IsUtf8};
 ghost use Rattle.br_model.specs.File.{has_bytes};
 ghost use Rattle.br_model.specs.Name.{is_directory};
 ghost use Rattle.br_fs.specs.Making.{KeepsOthers};
 ghost use Rattle.br_sink.specs.FileParts.{AreAlike, with_bytes};
+ghost use Rattle.br_sink.specs.declared.file_parts.PartsFault.TheVariants as why;
 ghost use Rattle.br_sink_folder.specs.Below.{AddsFolders, KeepsOutside, PutsBelow, WritesNew};
 ghost use Rattle.br_sink_folder.specs.FolderSink.{PutsItem, is_on_disk};
 ghost use Rattle.br_sink_folder.specs.Removed.{GivesUp};
@@ -30,6 +31,7 @@ fn write_parts<M: FileMaker, P: Parts>(
     ensures put { IfOk result (λ bytes. WritesNew path.now (M.New.contents file) bytes (M.nodes maker.old) (M.nodes maker.new)) }
     ensures alike { IfOk result (λ bytes. AreAlike bytes item.now.bytes) }
     ensures same { IfOk result (λ bytes. P.gives parts.old item.now → bytes ≡ item.now.bytes) }
+    ensures changed { result ≡ Err why.Changed → P.gives parts.old item.now → ⊥ }
     ensures others { KeepsOthers path.now (M.nodes maker.old) (M.nodes maker.new) }
     ensures on { P.goes_on parts.old parts.new }
 {
@@ -54,6 +56,7 @@ fn write_file<M: Remover, P: Parts>(
     ensures put { IfOk result (λ bytes. PutsBelow root.now item.now.path bytes (M.nodes maker.old) (M.nodes maker.new)) }
     ensures alike { IfOk result (λ bytes. AreAlike bytes item.now.bytes) }
     ensures same { IfOk result (λ bytes. P.gives parts.old item.now → bytes ≡ item.now.bytes) }
+    ensures changed { result ≡ Err why.Changed → P.gives parts.old item.now → ⊥ }
     ensures removed { OnErr result (GivesUp M.is_refused root.now item.now.path (M.nodes maker.old) (M.nodes maker.new)) }
     ensures outside { KeepsOutside root.now (M.nodes maker.old) (M.nodes maker.new) }
     ensures on { P.goes_on parts.old parts.new }
@@ -82,6 +85,7 @@ fn write_other<M: Remover>(
     ensures name { OnOk result (has_bytes item.now.kind ≡ true → is_directory item.now.path ≡ false) }
     ensures file { OnOk result (PutsItem root.now item.now (M.nodes maker.old) (M.nodes maker.new)) }
     ensures bytes { IfOk result (λ bytes. bytes ≡ item.now.bytes) }
+    ensures changed { result ≡ Err why.Changed → ⊥ }
     ensures folders { has_bytes item.now.kind ≡ false → AddsFolders root.now (M.nodes maker.old) (M.nodes maker.new) }
     ensures nothing { is_on_disk item.now.kind ≡ false → M.nodes maker.new ≡ M.nodes maker.old }
     ensures removed { OnErr result (GivesUp M.is_refused root.now item.now.path (M.nodes maker.old) (M.nodes maker.new)) }
@@ -105,6 +109,7 @@ pub(crate) fn put_item<M: Remover, P: Parts>(
     ensures file { IfOk result (λ bytes. PutsItem root.now (with_bytes item.now bytes) (M.nodes maker.old) (M.nodes maker.new)) }
     ensures alike { IfOk result (λ bytes. AreAlike bytes item.now.bytes) }
     ensures same { IfOk result (λ bytes. P.gives parts.old item.now → bytes ≡ item.now.bytes) }
+    ensures changed { result ≡ Err why.Changed → P.gives parts.old item.now → ⊥ }
     ensures folders { has_bytes item.now.kind ≡ false → AddsFolders root.now (M.nodes maker.old) (M.nodes maker.new) }
     ensures nothing { is_on_disk item.now.kind ≡ false → M.nodes maker.new ≡ M.nodes maker.old }
     ensures removed { OnErr result (GivesUp M.is_refused root.now item.now.path (M.nodes maker.old) (M.nodes maker.new)) }

@@ -1,11 +1,12 @@
 //! Puts two files side by side. Their bytes are read again while both are written.
-ghost use Rattle.std.specs.Prelude.{◌≡◌, ◌++◌, true, false, ℕ, List, Option, IfOk, IfSome, IsSome, OnErr, OnOk, string_bytes};
+ghost use Rattle.std.specs.Prelude.{◌≡◌, ◌++◌, true, false, ℕ, List, Option, IfOk, IfSome, IsSome, OnErr, OnOk, string_bytes, Err};
 ghost use Rattle.std.specs.Str.{IsUtf8};
 ghost use Rattle.br_model.specs.File.{has_bytes};
 ghost use Rattle.br_model.specs.Name.{is_directory};
 ghost use Rattle.br_fs.specs.Making.{IsBelow, IsFinished, Nodes};
-ghost use Rattle.br_sink.specs.TwoParts.{AreTwoAlike, AreTwoSame};
+ghost use Rattle.br_sink.specs.TwoParts.{AreTwoAlike, AreTwoSame, NotChanged};
 ghost use Rattle.br_sink.specs.declared.two_parts.TwoPut.TheVariants as two;
+ghost use Rattle.br_sink.specs.declared.file_parts.PartsFault.TheVariants as why;
 ghost use Rattle.br_sink_folder.specs.Below.{AddsFolders, KeepsOutside};
 ghost use Rattle.br_sink_folder.specs.FolderSink.{HasName, HasText};
 ghost use Rattle.br_sink_folder.specs.Removed.{ChangesOne, GivesUp, IsRemoved};
@@ -116,6 +117,7 @@ fn take_both_back<M: Remover>(maker: &mut M, paths: &Paths<'_>)
 fn close_first<M: Remover>(maker: &mut M, paths: &Paths<'_>, file: M::New) -> Result<(), PartsFault>
     requires below { HavePathsBelow paths.now }
     ensures finished { OnOk result (IsFinished paths.now.one.now (M.New.contents file) (M.nodes maker.old) (M.nodes maker.new)) }
+    ensures changed { result ≡ Err why.Changed → ⊥ }
     ensures removed { OnErr result (AreBothRemoved M.is_refused paths.now.one.now paths.now.other.now (M.nodes maker.new)) }
     ensures outside { KeepsOutside paths.now.root.now (M.nodes maker.old) (M.nodes maker.new) }
 {
@@ -137,6 +139,7 @@ fn close_second<M: Remover>(
 ) -> Result<(), PartsFault>
     requires below { HavePathsBelow paths.now }
     ensures finished { OnOk result (IsFinished paths.now.other.now (M.New.contents file) (M.nodes maker.old) (M.nodes maker.new)) }
+    ensures changed { result ≡ Err why.Changed → ⊥ }
     ensures removed { OnErr result (IsRemoved M.is_refused (M.nodes maker.new) paths.now.other.now) }
     ensures rest { ChangesOne paths.now.root.now paths.now.other.now (M.nodes maker.old) (M.nodes maker.new) }
     ensures outside { KeepsOutside paths.now.root.now (M.nodes maker.old) (M.nodes maker.new) }
@@ -163,6 +166,7 @@ fn close_both<M: Remover>(
 ) -> TwoPut
     requires below { HavePathsBelow paths.now }
     ensures put { PutsAtMost (two.Both one other) result }
+    ensures changed { NotChanged result }
     ensures closed { ClosesPaths paths.now (M.New.contents first) (M.New.contents second) (M.nodes maker.old) (M.nodes maker.new) result }
     ensures removed { IsRestRemoved M.is_refused paths.now.one.now paths.now.other.now (M.nodes maker.new) result }
     ensures outside { KeepsOutside paths.now.root.now (M.nodes maker.old) (M.nodes maker.new) }
@@ -188,6 +192,7 @@ fn close_one<M: Remover>(
 ) -> TwoPut
     requires below { HavePathsBelow paths.now }
     ensures put { PutsAtMost (two.One one why) result }
+    ensures changed { NotChanged (two.One one why) → NotChanged result }
     ensures closed { (second : Option (List ℕ)) → ClosesPaths paths.now (M.New.contents file) second (M.nodes maker.old)
         (M.nodes maker.new) result }
     ensures removed { IsRestRemoved M.is_refused paths.now.one.now paths.now.other.now (M.nodes maker.new) result }
@@ -210,6 +215,7 @@ fn close_pair<M: Remover>(
 ) -> TwoPut
     requires below { HavePathsBelow paths.now }
     ensures put { PutsAtMost written result }
+    ensures changed { NotChanged written → NotChanged result }
     ensures closed { ClosesPaths paths.now (M.New.contents first) (M.New.contents second) (M.nodes maker.old) (M.nodes maker.new) result }
     ensures removed { IsRestRemoved M.is_refused paths.now.one.now paths.now.other.now (M.nodes maker.new) result }
     ensures outside { KeepsOutside paths.now.root.now (M.nodes maker.old) (M.nodes maker.new) }
@@ -238,6 +244,7 @@ fn write_pair<M: Remover, P: TwoParts>(
     requires second { IsNewBelow pair.now.root.now pair.now.other.now.path second }
     ensures alike { AreTwoAlike pair.now.one.now pair.now.other.now result }
     ensures same { P.gives parts.old pair.now.one.now pair.now.other.now → AreTwoSame pair.now.one.now pair.now.other.now result }
+    ensures changed { P.gives parts.old pair.now.one.now pair.now.other.now → NotChanged result }
     ensures left { LeavesNew M.New.contents pair.now first second (M.nodes maker.old) (M.nodes maker.new) result }
     ensures removed { IsPairRemoved M.is_refused pair.now (M.nodes maker.new) result }
     ensures outside { KeepsOutside pair.now.root.now (M.nodes maker.old) (M.nodes maker.new) }
@@ -271,6 +278,7 @@ pub(crate) fn put_pair<M: Remover, P: TwoParts>(
     ensures alike { IfSome result (AreTwoAlike pair.now.one.now pair.now.other.now) }
     ensures same { P.gives parts.old pair.now.one.now pair.now.other.now
         → IfSome result (AreTwoSame pair.now.one.now pair.now.other.now) }
+    ensures changed { P.gives parts.old pair.now.one.now pair.now.other.now → IfSome result NotChanged }
     ensures left { IfSome result (LeavesTwo pair.now.root.now pair.now.one.now pair.now.other.now (M.nodes maker.old) (M.nodes maker.new)) }
     ensures removed { IfSome result (IsPairRemoved M.is_refused pair.now (M.nodes maker.new)) }
     ensures given_up { result ≡ None → GivesUp M.is_refused pair.now.root.now pair.now.one.now.path (M.nodes maker.old)
