@@ -6,6 +6,7 @@
 mod files;
 mod keeping;
 mod mem_jobs;
+mod mem_volumes;
 mod saved_jobs;
 mod serving;
 mod shown;

@@ -5,10 +5,9 @@ use std::alloc::Global;
 
 /// The line of the one file that each job saves, `message digest`. Its record of attributes has 38 bytes: the
 /// index, the type and the path 7, the numbers 30 and the link text 1, each with the byte that ends it. The data has
-/// 14 bytes and the digest 16. A block has a header of 24 bytes, and each record or part of one a header of 12. So
-/// the blocks of at most 64 bytes are 24 + 12 + 28, then 24 + 12 + 10 + 12 + 6, then 24 + 12 + 8 + 12 + 8, and last
-/// 24 + 12 + 8: three of 64 bytes and one of 44.
-const FILE: &[u8] = b"putd 3 /a 6d65737361676520646967657374 - A A IGk B A A A A A A A A A A";
+/// 14 bytes. A block has a header of 24 bytes, and each record or part of one a header of 12. So the blocks of at most
+/// 64 bytes are 24 + 12 + 28, then 24 + 12 + 10 + 12 + 6, and last 24 + 12 + 8: two of 64 bytes and one of 44.
+const FILE: &[u8] = b"put 3 /a 6d65737361676520646967657374 - A A IGk B A A A A A A A A A A";
 
 /// Makes the job of these lines: the fields of its first line after `job`, and the lines of the
 /// places.

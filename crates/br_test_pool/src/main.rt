@@ -17,10 +17,9 @@ use shelf::Shelf;
 use std::io;
 use std::sync::Wait;
 use std::thread::Threads;
-use std::time::Clock;
 
 /// Carries out a call, with this number for a field `k`, and prints the result.
-fn call<R: Clock + Threads + Wait + Sync>(
+fn call<R: Threads + Wait + Sync>(
     case: &mut Case,
     threads: &R,
     shelf: &Shelf,
@@ -46,7 +45,7 @@ fn call<R: Clock + Threads + Wait + Sync>(
 }
 
 /// Prints the result of a call, or the name of that text.
-fn named<R: Clock + Threads + Wait + Sync>(
+fn named<R: Threads + Wait + Sync>(
     case: &mut Case,
     threads: &R,
     shelf: &Shelf,
@@ -63,7 +62,7 @@ fn named<R: Clock + Threads + Wait + Sync>(
 
 /// Prints the results of a call with each of these numbers for a field `k`: the first number of
 /// those with the same result, and the result.
-fn each<R: Clock + Threads + Wait + Sync>(
+fn each<R: Threads + Wait + Sync>(
     case: &mut Case,
     threads: &R,
     shelf: &Shelf,
@@ -90,7 +89,7 @@ fn each<R: Clock + Threads + Wait + Sync>(
 }
 
 /// Runs a row.
-fn run<R: Clock + Threads + Wait + Sync>(
+fn run<R: Threads + Wait + Sync>(
     case: &mut Case,
     threads: &R,
     shelf: &mut Shelf,
@@ -105,7 +104,7 @@ fn run<R: Clock + Threads + Wait + Sync>(
 }
 
 /// Carries out the call of a row.
-fn run_call<R: Clock + Threads + Wait + Sync>(
+fn run_call<R: Threads + Wait + Sync>(
     case: &mut Case,
     threads: &R,
     shelf: &mut Shelf,
@@ -117,7 +116,7 @@ fn run_call<R: Clock + Threads + Wait + Sync>(
 }
 
 /// Runs the row of a line, if there is one. The rows of each name begin with an empty shelf.
-fn run_line<R: Clock + Threads + Wait + Sync>(
+fn run_line<R: Threads + Wait + Sync>(
     rt: &HostRuntime,
     threads: &R,
     shelf: &mut Shelf,

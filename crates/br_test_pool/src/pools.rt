@@ -14,7 +14,6 @@ use br_pool::{PoolFault, run_pool};
 use br_test_support::Case;
 use std::alloc::Global;
 use std::thread::Threads;
-use std::time::Clock;
 
 /// Returns the pieces of a bootstrap's text.
 pub(crate) fn pieces_of(alloc: Global, text: &[u8]) -> Result<Vec<Piece>, BsrFault>
@@ -81,10 +80,10 @@ fn push_answer(case: &mut Case, shelf: &Shelf, answer: &Result<Vec<Found>, PoolF
 }
 
 /// Returns what these drives find by a bootstrap.
-fn found_by<R: Clock + Threads + Sync>(
+fn found_by<R: Threads + Sync>(
     threads: &R,
     alloc: Global,
-    gate: &Holding<'_, R>,
+    gate: &Holding,
     text: &[u8],
     drives: &mut Vec<Turned>,
 ) -> Result<Result<Vec<Found>, PoolFault>, BsrFault>
@@ -96,14 +95,14 @@ fn found_by<R: Clock + Threads + Sync>(
 
 /// Prints what drives find by a bootstrap, or the refusal, and the number of pieces that the gate
 /// held.
-pub(crate) fn run<R: Clock + Threads + Sync>(
+pub(crate) fn run<R: Threads + Sync>(
     case: &mut Case,
     threads: &R,
     shelf: &Shelf,
     k: u64,
     [gate, drives, text]: [&str; 3],
 ) {
-    let gate = gate_of(case, threads, gate);
+    let gate = gate_of(case, gate);
     let text = shelf.text_of(case, text);
     let mut drives = drives_of(case, shelf, k, drives);
     if !are_drives(&drives) {

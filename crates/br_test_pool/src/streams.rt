@@ -17,7 +17,6 @@ use br_types::FileKey;
 use std::alloc::{AllocError, Global};
 use std::sync::Wait;
 use std::thread::Threads;
-use std::time::Clock;
 
 /// Returns a joiner of these pieces that takes all files.
 fn joiner_of(alloc: Global, pieces: &[Piece]) -> Result<Joiner, AllocError>
@@ -28,10 +27,10 @@ fn joiner_of(alloc: Global, pieces: &[Piece]) -> Result<Joiner, AllocError>
 }
 
 /// Streams pieces into the joiner by drives, if there are any, and prints the refusal, or `done`.
-fn streamed<R: Clock + Threads + Wait + Sync>(
+fn streamed<R: Threads + Wait + Sync>(
     case: &mut Case,
     threads: &R,
-    task: &Streaming<'_, Holding<'_, R>>,
+    task: &Streaming<'_, Holding>,
     joiner: &mut Joiner,
     drives: &mut Vec<Turned>,
 )
@@ -75,11 +74,11 @@ fn push_joined(
 
 /// Streams pieces into a joiner by drives, and then by others. Prints the results, and the
 /// manifest.
-fn stream<R: Clock + Threads + Wait + Sync>(
+fn stream<R: Threads + Wait + Sync>(
     case: &mut Case,
     threads: &R,
     shelf: &Shelf,
-    task: &Streaming<'_, Holding<'_, R>>,
+    task: &Streaming<'_, Holding>,
     drives: (&mut Vec<Turned>, &mut Vec<Turned>),
 ) -> Result<(), AllocError>
     requires split { AreOfBootstrap task.now.pieces.now }
@@ -106,11 +105,11 @@ fn room_of(case: &mut Case, field: &str) -> usize
 }
 
 /// Streams the pieces of a bootstrap, through a gate and a queue with this room.
-fn stream_text<R: Clock + Threads + Wait + Sync>(
+fn stream_text<R: Threads + Wait + Sync>(
     case: &mut Case,
     threads: &R,
     shelf: &Shelf,
-    (gate, room): (&Holding<'_, R>, &str),
+    (gate, room): (&Holding, &str),
     text: &[u8],
     drives: (&mut Vec<Turned>, &mut Vec<Turned>),
 ) -> Result<(), BsrFault> {
@@ -127,7 +126,7 @@ fn stream_text<R: Clock + Threads + Wait + Sync>(
 /// Streams the pieces of a bootstrap into a joiner by drives, and then by others if there are any,
 /// through a gate and a queue with this room. Prints both results, then the manifest of the
 /// joiner's files, and the number of pieces that the gate held.
-pub(crate) fn run<R: Clock + Threads + Wait + Sync>(
+pub(crate) fn run<R: Threads + Wait + Sync>(
     case: &mut Case,
     threads: &R,
     shelf: &Shelf,
@@ -137,7 +136,7 @@ pub(crate) fn run<R: Clock + Threads + Wait + Sync>(
     let [gate, room, first, again, text] = fields else {
         return case.fail("there is no such call");
     };
-    let gate = gate_of(case, threads, gate);
+    let gate = gate_of(case, gate);
     let text = shelf.text_of(case, text);
     let mut first = drives_of(case, shelf, k, first);
     let mut again = drives_of(case, shelf, k, again);
