@@ -3,23 +3,15 @@
 
 use crate::mem_jobs::MemJobs;
 use crate::mem_volumes::MemVolumes;
-use crate::saved_jobs::saved_job;
+use crate::saved_jobs::job_of;
 use br_history::{History, JobRows};
 use br_keeper::{Keeper, KeeperFault, Receipt, Session};
-use br_plan::{Plan, PlanFault, Request};
 use br_test_support::Case;
-use br_types::{Name, Path, VolName};
-use br_volume::{Count, MemStore};
-use std::alloc::Global;
+use br_types::VolName;
+use br_volume::MemStore;
 use std::sync::Wait;
 
 pub(crate) type MemKeeper = Keeper<MemJobs, MemVolumes>;
-
-/// A session, and the receipt of the last job that was committed.
-struct Watch {
-    session: Session,
-    last: Option<Receipt>,
-}
 
 /// Prints the number of a receipt and that of its job; `none` if nothing was published; or the
 /// number of the refusal.
@@ -35,25 +27,16 @@ fn push_receipt(case: &mut Case, given: &Result<Option<Receipt>, KeeperFault>) {
     }
 }
 
-/// Commits the job in a text of lines, prints the result, and returns the receipt if there is one.
-fn commit<R: Wait>(
-    rt: &R,
-    case: &mut Case,
-    keeper: &mut MemKeeper,
-    text: &str,
-) -> Option<Receipt> {
-    let text = case.text_of(text);
-    let text = str::from_utf8(&text).unwrap_or("");
-    let Some(job) = saved_job(case.alloc(), text) else {
-        case.fail("a field is no job");
-        return None;
+/// Commits the job in a text of lines, and prints the result.
+fn commit<R: Wait>(rt: &R, case: &mut Case, keeper: &mut MemKeeper, text: &str) {
+    let Some(job) = job_of(case, text) else {
+        return;
     };
     let given = match keeper.commit(rt, job) {
         Ok(receipt) => Ok(Some(receipt)),
         Err(fault) => Err(fault),
     };
     push_receipt(case, &given);
-    given.unwrap_or(None)
 }
 
 /// Takes a snapshot, and prints the number of its jobs and the number of the last one, or that
@@ -75,60 +58,6 @@ fn see(case: &mut Case, session: Session) -> Session {
     }
 }
 
-/// Has the session learn the receipt of the last job.
-fn learn(case: &mut Case, session: Session, last: &Option<Receipt>) -> Session {
-    match last {
-        Some(receipt) => {
-            case.text("learned");
-            session.learn(receipt)
-        }
-        None => {
-            case.fail("no job was committed");
-            session
-        }
-    }
-}
-
-/// Plans a restore of `/a` of the client `c` and the file set `f`, as it was before a moment.
-fn plan_of(alloc: Global, history: &History, moment: u64) -> Result<Plan, PlanFault> {
-    let (Ok(client), Ok(fileset)) = (Name::new(alloc, b"c"), Name::new(alloc, b"f")) else {
-        return Err(PlanFault::Memory);
-    };
-    let Ok(path) = Path::new(alloc, b"/a") else {
-        return Err(PlanFault::Memory);
-    };
-    let request = Request {
-        client,
-        fileset,
-        moment,
-    };
-    Plan::make(alloc, history, &request, &[path])
-}
-
-/// Plans a restore from a snapshot, and prints the session of each planned file and its path, or
-/// the number of the refusal.
-fn plan(case: &mut Case, session: Session, moment: &str) -> Session {
-    let moment = case.u64_of(moment);
-    let snapshot = match session.snapshot() {
-        Ok(snapshot) => snapshot,
-        Err(session) => {
-            case.text("none");
-            return session;
-        }
-    };
-    match plan_of(case.alloc(), snapshot.history(), moment) {
-        Ok(plan) => {
-            for (key, path) in plan.names().iter() {
-                case.number(u64::from(key.session.id));
-                case.text(":");
-                case.bytes(path.bytes());
-            }
-        }
-        Err(fault) => case.number(u64::from(fault.number())),
-    }
-    snapshot.release()
-}
-
 /// Appends a byte to a volume, or prints the length that the keeper vouches for.
 fn ask_of_volume(case: &mut Case, keeper: &mut MemKeeper, word: &str, name: &str) {
     let Some(vol) = case.vol_of(name) else {
@@ -148,21 +77,17 @@ fn act<R: Wait>(
     rt: &R,
     case: &mut Case,
     keeper: &mut MemKeeper,
-    watch: Watch,
+    session: Session,
     step: &str,
-) -> Watch {
-    let Watch { session, mut last } = watch;
-    let mut session = session;
+) -> Session {
     let (word, rest) = step.split_once(':').unwrap_or((step, ""));
     match word {
-        "see" => session = see(case, session),
-        "plan" => session = plan(case, session, rest),
-        "learn" => session = learn(case, session, &last),
-        "commit" => last = commit(rt, case, keeper, rest),
+        "see" => return see(case, session),
+        "commit" => commit(rt, case, keeper, rest),
         "republish" => push_receipt(case, &keeper.republish(rt)),
         _ => ask_of_volume(case, keeper, word, rest),
     }
-    Watch { session, last }
+    session
 }
 
 /// Takes steps one after another.
@@ -173,15 +98,12 @@ fn act_each<R: Wait>(
     session: Session,
     steps: &[&str],
 ) -> Session {
-    let mut watch = Watch {
-        session,
-        last: None,
-    };
+    let mut session = session;
     for step in steps {
-        watch = act(rt, case, keeper, watch, step);
+        session = act(rt, case, keeper, session, step);
         case.text(" ");
     }
-    watch.session
+    session
 }
 
 /// Prints the names and lengths of volumes.
@@ -219,11 +141,7 @@ fn volumes_of(case: &mut Case, failure: &str) -> MemVolumes {
             (MemStore::failing_at(alloc, number, kept as usize), 0)
         }
     };
-    MemVolumes {
-        store,
-        length_fails_at,
-        failures: Count::zero(),
-    }
+    MemVolumes::new(store, length_fails_at)
 }
 
 /// Runs a call: makes a keeper with sixteen sessions over a catalogue without jobs, takes the

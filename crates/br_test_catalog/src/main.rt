@@ -7,6 +7,7 @@ mod files;
 mod keeping;
 mod mem_jobs;
 mod mem_volumes;
+mod plans;
 mod saved_jobs;
 mod serving;
 mod shown;
@@ -28,6 +29,7 @@ fn run_fields<R: Threads + Wait + Copy + Send + 'static>(
         ["files", steps @ ..] => files::run(rt, case, steps),
         ["volume", call @ ..] => volumes::run(case, call),
         ["keeper", failure, steps @ ..] => keeping::run(&threads, case, failure, steps),
+        ["plans", moment, jobs @ ..] => plans::run(&threads, case, moment, jobs),
         ["serve", first, second, watchers] => {
             let jobs = (case.u32_of(first), case.u32_of(second));
             let watchers = case.u32_of(watchers);

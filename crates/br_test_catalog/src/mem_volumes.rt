@@ -8,9 +8,21 @@ use br_volume::{Count, MemStore, VolumeFault, VolumeStore};
 pub(crate) struct MemVolumes {
     pub(crate) store: MemStore,
     /// The number of the call for a length that fails, counted from 1 and from now on; 0 if none does.
-    pub(crate) length_fails_at: u64,
+    length_fails_at: u64,
     /// The number of calls for a length that have failed.
-    pub(crate) failures: Count,
+    failures: Count,
+}
+
+impl MemVolumes {
+    /// Returns the volumes of a store. Their call for a length with this number fails, counted from
+    /// 1; none for 0.
+    pub(crate) fn new(store: MemStore, length_fails_at: u64) -> MemVolumes {
+        MemVolumes {
+            store,
+            length_fails_at,
+            failures: Count::zero(),
+        }
+    }
 }
 
 impl VolumeStore for MemVolumes {

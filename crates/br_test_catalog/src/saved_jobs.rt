@@ -1,6 +1,7 @@
 //! Jobs to be committed, as the lines of a script.
 
 use br_history::{Draft, SavedJob, read_head};
+use br_test_support::Case;
 use std::alloc::Global;
 
 /// The line of the one file that each job saves, `message digest`. Its record of attributes has 38 bytes: the
@@ -11,7 +12,7 @@ const FILE: &[u8] = b"put 3 /a 6d65737361676520646967657374 - A A IGk B A A A A 
 
 /// Makes the job of these lines: the fields of its first line after `job`, and the lines of the
 /// places.
-pub(crate) fn saved_job(alloc: Global, text: &str) -> Option<SavedJob> {
+fn saved_job(alloc: Global, text: &str) -> Option<SavedJob> {
     let mut lines = text.split('\n');
     let mut draft = Draft::new(alloc, read_head(alloc, lines.next()?.as_bytes()).ok()?);
     draft.take(alloc, FILE).ok()?;
@@ -19,6 +20,16 @@ pub(crate) fn saved_job(alloc: Global, text: &str) -> Option<SavedJob> {
         draft.take(alloc, line.as_bytes()).ok()?;
     }
     draft.end().ok()?
+}
+
+/// Makes the job of a field with a text of lines.
+pub(crate) fn job_of(case: &mut Case, field: &str) -> Option<SavedJob> {
+    let text = case.text_of(field);
+    let job = saved_job(case.alloc(), str::from_utf8(&text).unwrap_or(""));
+    if job.is_none() {
+        case.fail("a field is no job");
+    }
+    job
 }
 
 /// Makes the job with this number, which is also that of its session. Its first block goes to A,

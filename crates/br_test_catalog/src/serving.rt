@@ -5,6 +5,7 @@ ghost use Rattle.br_keeper.specs.Sessions.{AllKnow};
 
 use crate::keeping::MemKeeper;
 use crate::mem_jobs::MemJobs;
+use crate::mem_volumes::MemVolumes;
 use crate::saved_jobs::numbered;
 use br_history::{History, JobRows};
 use br_keeper::{Ask, Keeper, Naming, Reply, SavedJob, Session, serve};
@@ -204,7 +205,7 @@ fn serve_both<K: Naming + Send + Sync + 'static, R: Threads + Wait + Copy + Send
     };
     let one = start::<K, R>(rt, alloc, inbox, callers.0, 0, jobs.0);
     let other = start::<K, R>(rt, alloc, second, callers.1, BEFORE_SECOND, jobs.1);
-    let keeper = serve::<K, MemJobs, MemStore, R>(&rt, keeper, &asks);
+    let keeper = serve::<K, MemJobs, MemVolumes, R>(&rt, keeper, &asks);
     let found = end(&rt, one);
     (keeper, end(&rt, other) && found)
 }
@@ -254,7 +255,8 @@ pub(crate) fn run<R: Threads + Wait + Copy + Send + 'static>(
         history: History::new(alloc),
     };
     let sessions = if watchers < 15 { watchers + 2 } else { 16 };
-    match Keeper::new(&rt, alloc, catalogue, MemStore::new(alloc), sessions) {
+    let volumes = MemVolumes::new(MemStore::new(alloc), 0);
+    match Keeper::new(&rt, alloc, catalogue, volumes, sessions) {
         Ok((keeper, sessions)) => {
             let (keeper, right) = serve_sessions(rt, alloc, keeper, sessions, jobs);
             case.number_or_none(right.map(u64::from));
