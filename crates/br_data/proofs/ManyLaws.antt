@@ -1,6 +1,6 @@
 -- What drives in their places show, and how often they failed.
 use Rattle.std.proofs.Common.{◌≡◌, ◌+◌, ◌<◌, ◌≤◌, ℕ, zero, suc, List, [], ◌∷◌, length, Option, Some, None, Ok, refl, sym, subst, arith, ◌∙◌, slice_set}
-use Rattle.std.proofs.lemmas.Option.{same_Some}
+use Rattle.std.proofs.lemmas.Option.{same_Some, slice_get_within}
 use Rattle.std.specs.Prelude.{slice_get, ⊤}
 use Rattle.std.specs.List.{AllByRecursion, AllZip}
 use Rattle.br_model.specs.Bootstrap.{Group}
@@ -9,7 +9,7 @@ use Rattle.br_model.specs.Volume.{Volume}
 use Rattle.br_volume.specs.Drive.{OnlyGrows}
 use Rattle.br_volume.proofs.ExtendLaws.{extends_itself, grows_itself, grows_more}
 use Rattle.br_data.specs.KeptData.{Kept}
-use Rattle.br_data.specs.KnownBlocks.{IsKnown, IsReady, KnownBlock, bytes_of}
+use Rattle.br_data.specs.KnownBlocks.{IsKnown, IsReady, KnownBlock, OfFragment, bytes_of}
 use Rattle.br_data.specs.StandingHits.{FragmentPlace, StandingStays, Stands, place_on}
 use Rattle.br_data.specs.OverDrives.{GivesOver}
 use Rattle.br_data.specs.ManyDrives.{Driven, FailsAt, GoesOn, HasBytes, HaveBytes, IsKnownAt, driven_by}
@@ -19,6 +19,11 @@ pub has_ready : (shown : Option (List Volume)) (place : FragmentPlace) (kept : K
     → HasBytes shown place kept.bytes → bytes_of known place.ordinal kept ≡ Ok kept.bytes
 has_ready None place kept known ready has = absurd has
 has_ready (Some shown) place kept known ready has = ready shown has.0 (extends_itself shown) has.1 has.2
+
+-- a drive that has bytes at the place has a fragment there
+pub never_gone : (shown : Option (List Volume)) (place : FragmentPlace) (bytes : List ℕ) → OfFragment shown place (λ _. ⊥) → HasBytes shown place bytes → ⊥
+never_gone None place bytes gone has = has
+never_gone (Some shown) place bytes gone has = gone shown has.0 (extends_itself shown) has.1
 
 -- bytes that a drive has it has still when its volumes have grown
 has_still : StandingStays → (earlier later : Option (List Volume)) (place : FragmentPlace) (bytes : List ℕ) → OnlyGrows earlier later
@@ -37,6 +42,22 @@ given_has (Some shown) groups spot bytes group place of is given =
       subst (λ (p : FragmentPlace). Stands shown p given.fragment) (sym is) (subst (λ (g : Group). Stands shown (place_on g.volume spot) given.fragment) same given.stands),
       given.same,
     )
+
+-- what a drive gives is of a group
+given_of_group : (shown : Option (List Volume)) (groups : List Group) (spot : Spot) (bytes : List ℕ) → GivesOver shown groups spot bytes → spot.group < length groups
+given_of_group None groups spot bytes given = absurd given
+given_of_group (Some shown) groups spot bytes given = slice_get_within groups spot.group given.group given.of
+
+-- what drives give is of a group, if there is a drive
+pub given_by_group : (groups : List Group) (spot : Spot) (bytes : List ℕ) (drives : List Driven) → AllByRecursion (λ (d : Driven). GivesOver d.shown groups spot bytes) drives
+    → 0 < length drives → spot.group < length groups
+given_by_group groups spot bytes [] given some = absurd (omega (arith, some))
+given_by_group groups spot bytes (d ∷ drives) given some = given_of_group d.shown groups spot bytes given.0
+
+-- a list that is not empty
+pub not_none : {A : Type 0} (xs : List A) → (length xs ≡ 0 → ⊥) → 0 < length xs
+not_none [] some = absurd (some refl)
+not_none (x ∷ xs) some = omega arith
 
 module _ {D : Type 0} (shows : D → Option (List Volume)) (failures : D → ℕ) where
   -- its volumes only grew, and the number of its failures did not fall

@@ -1,5 +1,5 @@
 ghost use Rattle.std.specs.Prelude.{◌≡◌, [], length, Err, IfOk};
-ghost use Rattle.br_data.specs.declared.reread_fault.AgainFault.TheVariants.{Failed};
+ghost use Rattle.br_data.specs.declared.reread_fault.AgainFault.TheVariants.{Changed, Failed};
 ghost use Rattle.br_data.specs.ManyDrives.{GivesMany, GoOn, HaveFailed, driven_by};
 
 use crate::data::Data;
@@ -114,18 +114,20 @@ impl<'b, D: Drive> OverMany<'b, D> {
     ///
     /// # Errors
     ///
-    /// `Failed` if each drive failed, `Changed` if no group has this number or the volume no longer
-    /// has as many bytes at the place, `Memory` if memory runs out.
+    /// `Failed` if each drive failed, `Changed` if no group has this number or a volume no longer has as
+    /// many bytes at the place, `Memory` if memory runs out.
     pub fn read(&mut self, alloc: Global, spot: Spot, found: &Data) -> Result<Data, AgainFault>
         ensures same { IfOk result (λ read. GivesMany self.old spot found.now.bytes → read.bytes ≡ found.now.bytes) }
         ensures on { GoOn self.old self.new }
         ensures failed { result ≡ Err Failed → HaveFailed self.old self.new }
+        ensures changed { result ≡ Err Changed → GivesMany self.old spot found.now.bytes → ⊥ }
     {
         if found.is_held() {
             return Ok(found.share()?);
         }
         let groups = self.groups;
         match groups.get(spot.group as usize) {
+            None if self.count() == 0 => Err(AgainFault::Failed),
             None => Err(AgainFault::Changed),
             Some(group) => {
                 let place = FragmentPlace {

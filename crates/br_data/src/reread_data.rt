@@ -3,7 +3,7 @@ ghost use Rattle.std.specs.Prelude.{◌≡◌, ◌<◌, ◌≤◌, Err, IfOk};
 ghost use Rattle.std.specs.List.{AllZip};
 ghost use Rattle.br_volume.specs.Drive.{OnlyGrows};
 ghost use Rattle.br_data.specs.KnownBlocks.{IsKnown};
-ghost use Rattle.br_data.specs.declared.reread_fault.AgainFault.TheVariants.{Failed};
+ghost use Rattle.br_data.specs.declared.reread_fault.AgainFault.TheVariants.{Changed, Failed};
 ghost use Rattle.br_data.specs.ManyDrives.{FailsAt, HasBytes, HaveBytes, IsKnownAt, StayOn};
 
 use crate::data::Data;
@@ -34,6 +34,7 @@ fn read_by<D: Drive>(
     ensures grows { OnlyGrows (D.shows drive.old) (D.shows drive.new) }
     ensures counted { D.failures drive.old ≤ D.failures drive.new }
     ensures failed { result ≡ Err Failed → D.failures drive.old < D.failures drive.new }
+    ensures changed { result ≡ Err Changed → HasBytes (D.shows drive.old) place.now found.now.bytes → ⊥ }
 {
     again.prepare(drive, place, found)?;
     let bytes = again.bytes_of(place.ordinal, found)?;
@@ -59,6 +60,7 @@ fn read_at<D: Drive>(
     ensures same { IfOk result (λ read. HaveBytes D.shows drives.old.items place.now found.now.bytes → read.bytes ≡ found.now.bytes) }
     ensures stay { StayOn D.shows D.failures drives.old.items drives.new.items }
     ensures failed { result ≡ Err Failed → FailsAt D.failures drives.old.items drives.new.items at }
+    ensures changed { result ≡ Err Changed → HaveBytes D.shows drives.old.items place.now found.now.bytes → ⊥ }
 {
     match drives.get_mut(at) {
         None => Err(AgainFault::Failed),
@@ -83,6 +85,7 @@ fn read_any<D: Drive>(
     ensures same { IfOk result (λ read. HaveBytes D.shows drives.old.items place.now found.now.bytes → read.1.bytes ≡ found.now.bytes) }
     ensures stay { StayOn D.shows D.failures drives.old.items drives.new.items }
     ensures failed { result ≡ Err Failed → AllZip (λ x y. D.failures x < D.failures y) drives.old.items drives.new.items }
+    ensures changed { result ≡ Err Changed → HaveBytes D.shows drives.old.items place.now found.now.bytes → ⊥ }
 {
     standing_stays();
     for at in 0..drives.len() {
@@ -115,6 +118,7 @@ fn read_by_another<D: Drive>(
     ensures same { IfOk result (λ read. HaveBytes D.shows drives.old.items place.now found.now.bytes → read.bytes ≡ found.now.bytes) }
     ensures stay { StayOn D.shows D.failures drives.old.items drives.new.items }
     ensures failed { result ≡ Err Failed → AllZip (λ x y. D.failures x < D.failures y) drives.old.items drives.new.items }
+    ensures changed { result ≡ Err Changed → HaveBytes D.shows drives.old.items place.now found.now.bytes → ⊥ }
 {
     match read_any(alloc, drives, again, place, found) {
         Ok((first, read)) => {
@@ -147,6 +151,7 @@ pub(crate) fn read_again<D: Drive>(
     ensures same { IfOk result (λ read. HaveBytes D.shows drives.old.items place.now found.now.bytes → read.bytes ≡ found.now.bytes) }
     ensures stay { StayOn D.shows D.failures drives.old.items drives.new.items }
     ensures failed { result ≡ Err Failed → AllZip (λ x y. D.failures x < D.failures y) drives.old.items drives.new.items }
+    ensures changed { result ≡ Err Changed → HaveBytes D.shows drives.old.items place.now found.now.bytes → ⊥ }
 {
     standing_stays();
     match read_at(alloc, drives, *at, again, place, found) {

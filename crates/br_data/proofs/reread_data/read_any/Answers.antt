@@ -15,6 +15,12 @@ pub returns-in-Ok-clause-stay : goal.returns-in-Ok-clause-stay
 returns-in-Ok-clause-stay g c =
     stay_more g.D.Drive.shows g.D.Drive.failures c.args.drives.now.items c.loop-at.drives.items c.read_at.new.drives.items c.loop-at.invariant.stay c.read_at.ensures.stay
 
+pub returns-in-Err-Changed-clause-changed : goal.returns-in-Err-Changed-clause-changed
+returns-in-Err-Changed-clause-changed g c = λ is has.
+    c.read_at.ensures.changed (c.in-Err-Changed.is ∙ ap Err c.in-Err-Changed.field-0-is)
+    (have_still g.D.Drive.shows g.D.Drive.failures c.standing_stays.ensures c.args.drives.now.items c.loop-at.drives.items c.args.place.now c.args.found.now.bytes
+    c.loop-at.invariant.stay has)
+
 pub returns-in-Err-Memory-clause-stay : goal.returns-in-Err-Memory-clause-stay
 returns-in-Err-Memory-clause-stay g c =
     stay_more g.D.Drive.shows g.D.Drive.failures c.args.drives.now.items c.loop-at.drives.items c.read_at.new.drives.items c.loop-at.invariant.stay c.read_at.ensures.stay
