@@ -1,5 +1,6 @@
 mod DataLaws
 pub mod PlainLaws
+mod RoomLaws
 pub mod TakingLaws
 pub mod FilesLaws
 pub mod PieceLaws

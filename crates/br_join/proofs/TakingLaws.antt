@@ -13,6 +13,7 @@ use Rattle.br_model.proofs.RisingLaws.{found_is_held, hit_was_found}
 use Rattle.br_join.specs.Joining.{Joining, with_batch}
 use Rattle.br_records.specs.Runs.{listed}
 use Rattle.br_records.proofs.SortLaws.{place}
+use Rattle.br_join.proofs.RoomLaws.{filled_more, filled_none}
 
 pub find_joined : (xs ys : List Hit) (q : FileKey × Spot) → find hit_cmp q (listed (xs ++ ys)) ≡ option_or (find hit_cmp q (listed xs)) (find hit_cmp q (listed ys))
 find_joined [] ys q = refl
@@ -59,10 +60,10 @@ with_more held xs ys = hits_are_lookups_lem (with_hits (with_hits held xs) ys) (
     ∙ sym (taking_keeps_what_is_held_lem held (xs ++ ys) q))
 
 pub batch_none : (j : Joining) → with_batch j [] ≡ j
-batch_none j = λ t. record { pieces = j.pieces; names = j.names; hits = with_none j.hits t }
+batch_none j = λ t. record { pieces = j.pieces; names = j.names; hits = with_none j.hits t; room = filled_none j.room t }
 
 pub batch_more : (j : Joining) (xs ys : List Hit) → with_batch (with_batch j xs) ys ≡ with_batch j (xs ++ ys)
-batch_more j xs ys = λ t. record { pieces = j.pieces; names = j.names; hits = with_more j.hits xs ys t }
+batch_more j xs ys = λ t. record { pieces = j.pieces; names = j.names; hits = with_more j.hits xs ys t; room = filled_more j.room xs ys t }
 
 -- ---- what a set has that took hits
 

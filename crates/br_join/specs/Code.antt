@@ -9,6 +9,7 @@ use Rattle.br_model.specs.Block.{Fragment}
 use Rattle.br_model.specs.Meaning.{Spot, Hits}
 use Rattle.br_model.specs.Restored.{Names}
 use Rattle.br_join.specs.Joining.{Joining}
+use Rattle.br_join.specs.declared.room.Room.{Room}
 
 abbrev pub coded_spot : Coded Spot
 coded_spot =
@@ -24,8 +25,13 @@ coded_fragment =
 abbrev pub coded_hits : Coded Hits
 coded_hits = code (coded× coded_key coded_spot) coded_fragment
 
+abbrev pub coded_room : Coded Room
+coded_room =
+    code_by (Option ℕ × (Option ℕ × Bool)) (coded× (coded_option coded_ℕ) (coded× (coded_option coded_ℕ) coded_bool)) (λ r. (r.bound, (r.left, r.holds_all)))
+    (λ p. record { bound = p.0; left = p.1.0; holds_all = p.1.1 }) (λ _. refl)
+
 abbrev pub coded_joining : Coded Joining
 coded_joining =
-    code_by (FinMap nat_cmp Bool × (Option Names × Hits))
-    (coded× (code coded_ℕ coded_bool) (coded× (coded_option (code coded_key (coded_list coded_ℕ))) coded_hits))
-    (λ j. (j.pieces, (j.names, j.hits))) (λ p. record { pieces = p.0; names = p.1.0; hits = p.1.1 }) (λ _. refl)
+    code_by (FinMap nat_cmp Bool × (Option Names × (Hits × Room)))
+    (coded× (code coded_ℕ coded_bool) (coded× (coded_option (code coded_key (coded_list coded_ℕ))) (coded× coded_hits coded_room)))
+    (λ j. (j.pieces, (j.names, (j.hits, j.room)))) (λ p. record { pieces = p.0; names = p.1.0; hits = p.1.1.0; room = p.1.1.1 }) (λ _. refl)

@@ -5,5 +5,6 @@ pub mod Joining
 pub mod Outcome
 pub mod Pieces
 pub mod Plain
+pub mod Room
 pub mod Runs
 pub mod Source

@@ -1,9 +1,10 @@
 ghost use Rattle.std.specs.Prelude.{◌≡◌, ◌+◌, ◌≤◌, ◌++◌, vec_capacity, vec_len, IfOk, IfErr, OnOk, OnErr};
 ghost use Rattle.std.specs.FinMap.{empty};
 ghost use Rattle.br_model.specs.Meaning.{hits_of, with_hits};
+ghost use Rattle.br_join.specs.Room.{data_in, filled};
 ghost use Rattle.br_records.specs.Runs.{AreListed};
 
-use crate::room::{Room, let_all_go};
+use crate::room::{Room, let_go_if};
 use br_match::Hit;
 use br_records::settle;
 use std::alloc::{AllocError, Global};
@@ -38,6 +39,23 @@ impl Model for Held {
     ghost view = { λ h. hits_of h.hits.items };
 }
 
+/// Reserves room for the data of hits that come. If there is too little, their data are let go, and
+/// those of the hits that were taken before: a restore that does not hold all data reads them again.
+fn make_room(room: &mut Room, taken: &mut Vec<Hit>, hits: &mut Vec<Hit>)
+    ensures room { room.new ≡ filled room.old (data_in hits.old.items) }
+    ensures taken { taken.new.items ≡ taken.old.items }
+    ensures taken_len { vec_len taken.new ≡ vec_len taken.old }
+    ensures capacity { vec_capacity taken.new ≡ vec_capacity taken.old }
+    ensures hits { hits.new.items ≡ hits.old.items }
+    ensures hits_len { vec_len hits.new ≡ vec_len hits.old }
+{
+    let held = room.holds_all();
+    room.take(hits);
+    let holds = room.holds_all();
+    let_go_if(taken, held != holds);
+    let_go_if(hits, !holds);
+}
+
 /// Appends hits to a list that has room for them.
 fn append(list: &mut Vec<Hit>, mut hits: Vec<Hit>)
     requires { vec_len list.old + vec_len hits ≤ vec_capacity list.old }
@@ -69,31 +87,20 @@ impl Held {
         self.full = self.hits.len().saturating_mul(2);
     }
 
-    /// Reserves room for the data of hits. If there is too little, the data of the hits that were
-    /// taken before are let go: a restore that does not hold all data reads them again.
-    fn make_room(&mut self, room: &mut Room, hits: &[Hit])
-        ensures { self.new ≡ self.old }
-    {
-        let held = room.holds_all();
-        room.take(hits);
-        if held && !room.holds_all() {
-            let_all_go(&mut self.hits);
-        }
-    }
-
-    /// Takes hits, and lets data go if there is no room for them. Returns the hits unchanged if
-    /// memory runs out.
+    /// Takes hits, and lets data go if there is no room for them. If memory runs out, nothing
+    /// changes, and the hits are returned.
     pub(crate) fn take(&mut self, room: &mut Room, mut hits: Vec<Hit>) -> Result<(), Vec<Hit>>
         ensures ok { OnOk result (self.new ≡ with_hits self.old hits.items) }
+        ensures room { OnOk result (room.new ≡ filled room.old (data_in hits.items)) }
         ensures err { OnErr result (self.new ≡ self.old) }
+        ensures same { OnErr result (room.new ≡ room.old) }
         ensures back { IfErr result (λ value. value ≡ hits) }
     {
         self.shorten();
-        self.make_room(room, &hits);
         if self.hits.try_reserve(hits.len()).is_err() {
             return Err(hits);
         }
-        room.fit(&mut hits);
+        make_room(room, &mut self.hits, &mut hits);
         append(&mut self.hits, hits);
         Ok(())
     }

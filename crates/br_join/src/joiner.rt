@@ -1,4 +1,4 @@
-ghost use Rattle.std.specs.Prelude.{◌≡◌, ◌≢◌, ◌++◌, ℕ, Bool, true, false, None, map, option_map, IfOk, OnOk, OnErr, IfErr, IsErr};
+ghost use Rattle.std.specs.Prelude.{◌≡◌, ◌≢◌, ◌++◌, ℕ, Bool, true, false, None, Some, map, option_map, IfOk, OnOk, OnErr, IfErr, IsErr};
 ghost use Rattle.std.specs.List.{list_all};
 ghost use Rattle.std.specs.BTreeMap.{values, IsOrdered};
 ghost use Rattle.std.specs.Ordering.{nat_cmp};
@@ -6,7 +6,7 @@ ghost use Rattle.std.specs.FinMap as finite;
 ghost use Rattle.br_model.specs.Meaning.{hits_of};
 ghost use Rattle.br_model.specs.Restored.{files, planned_in};
 ghost use Rattle.br_join.specs.Outcome.{restored};
-ghost use Rattle.br_join.specs.Joining.{begun, taken, with_batch, with_closed, is_ready, emptied};
+ghost use Rattle.br_join.specs.Joining.{begun, begun_within, taken, with_batch, with_closed, is_ready, emptied};
 ghost use Rattle.br_join.specs.Pieces.{as_map, opens};
 ghost use Rattle.br_records.specs.Runs.{AreListed};
 ghost use Rattle.br_join.specs.declared.fault.JoinFault.TheVariants.{StrangerPiece};
@@ -31,7 +31,7 @@ use std::thread::Threads;
 /// At the first data for which there is no room, all data are let go, except attributes and
 /// digests. The files are then made of data that are read again, and the memory is free for what
 /// follows. For contracts the hits stay the same: they see the bytes whether these are in memory or
-/// not.
+/// not, and beside them how much room is left and whether all data are held.
 #[derive(Drop)]
 pub struct Joiner {
     /// The number of each piece, and whether the piece is closed.
@@ -51,7 +51,7 @@ impl Model for Joiner {
 
     ghost coded = { coded_joining };
 
-    ghost view = { λ j. record { pieces = as_map j.pieces; names = j.names; hits = j.hits } };
+    ghost view = { λ j. record { pieces = as_map j.pieces; names = j.names; hits = j.hits; room = j.room } };
 }
 
 /// Returns the numbers of the pieces, each of them open.
@@ -95,11 +95,12 @@ fn all_closed(pieces: &BTreeMap<u32, bool>) -> bool
 
 impl Joiner {
     /// Returns a joiner of these pieces, each of them open. With names it restores the planned
-    /// files and no others, else all files that are found. It has room for all data.
+    /// files and no others, else all files that are found. It has room for all data, so none are
+    /// ever let go.
     pub fn new(alloc: Global, pieces: &[Piece], names: Option<Names>) -> Result<Joiner, AllocError>
         ensures { IfOk result (λ joiner. joiner ≡ begun pieces.now names) }
     {
-        Joiner::with_room(alloc, pieces, names, u64::MAX)
+        Joiner::within(alloc, pieces, names, None)
     }
 
     /// Returns a joiner as `new` does, with room for this number of bytes of data. Attributes and
@@ -110,13 +111,26 @@ impl Joiner {
         names: Option<Names>,
         room: u64,
     ) -> Result<Joiner, AllocError>
-        ensures { IfOk result (λ joiner. joiner ≡ begun pieces.now names) }
+        ensures { IfOk result (λ joiner. joiner ≡ begun_within (Some room) pieces.now names) }
+    {
+        Joiner::within(alloc, pieces, names, Some(room))
+    }
+
+    /// Returns a joiner as `new` does, with room for this number of bytes of data if there is a
+    /// bound.
+    fn within(
+        alloc: Global,
+        pieces: &[Piece],
+        names: Option<Names>,
+        bound: Option<u64>,
+    ) -> Result<Joiner, AllocError>
+        ensures { IfOk result (λ joiner. joiner ≡ begun_within bound pieces.now names) }
     {
         Ok(Joiner {
             pieces: opened(alloc, pieces)?,
             names,
             hits: Held::new(alloc),
-            room: Room::new(room),
+            room: Room::new(bound),
         })
     }
 
@@ -232,13 +246,13 @@ impl Joiner {
     ///
     /// # Errors
     ///
-    /// `AllocError` if memory runs out, or if data of a file were let go. Then the joiner is
-    /// unchanged.
+    /// `AllocError` if memory runs out. Then the joiner is unchanged.
     pub fn finish(
         &mut self,
         rt: &(impl Threads + Sync),
     ) -> Result<Vec<(FileKey, Outcome)>, AllocError>
-        requires { is_ready self.old ≡ true }
+        requires ready { is_ready self.old ≡ true }
+        requires held { self.old.room.holds_all ≡ true }
         ensures ok { OnOk result (self.new ≡ emptied self.old) }
         ensures err { OnErr result (self.new ≡ self.old) }
         ensures files { IfOk result (λ outcomes. map restored outcomes.items ≡ files self.old.hits (option_map planned_in self.old.names)) }
@@ -257,9 +271,11 @@ impl Joiner {
         }
     }
 
-    /// Returns whether all data that were taken are in memory. If not, `finish` refuses, and the
-    /// files are made from the result of `into_hits`.
-    pub fn holds_all(&self) -> bool {
+    /// Returns whether all data that were taken are in memory, as `finish` needs them. If not, the
+    /// files are made from the result of `into_hits`. A joiner with room for all data holds all.
+    pub fn holds_all(&self) -> bool
+        ensures { result ≡ self.now.room.holds_all }
+    {
         self.room.holds_all()
     }
 
