@@ -68,6 +68,14 @@ takes_on P Q R u v w a b d f g s t = record {
   all = λ r. has_all_joined s.popped t.popped s.batches t.batches (s.all (f r)) (t.all (g r));
 }
 
+-- a stronger condition
+pub takes_so : (P Q : Type 0) (v w : Crew) (a b : Joining) → (Q → P) → Takes P v w a b → Takes Q v w a b
+takes_so P Q v w a b f t = record { popped = t.popped; batches = t.batches; adds = t.adds; some = t.some; took = t.took; all = λ q. t.all (f q) }
+
+-- to know more that was pushed changes nothing
+pub takes_into : (P : Type 0) (v w x : Crew) (a b : Joining) → x.popped ≡ w.popped → Takes P v w a b → Takes P v x a b
+takes_into P v w x a b e t = record { popped = t.popped; batches = t.batches; adds = e ∙ t.adds; some = t.some; took = t.took; all = t.all }
+
 -- ---- what is pushed
 
 pub pushes_none : (v : Crew) → Pushes v v []

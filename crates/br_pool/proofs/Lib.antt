@@ -15,6 +15,7 @@ pub mod PlaceLaws
 pub mod ResultLaws
 pub mod CrewLaws
 pub mod GatheringLaws
+pub mod OutletLaws
 pub mod SendingLaws
 pub mod GathersLaws
 pub mod SendersLaws

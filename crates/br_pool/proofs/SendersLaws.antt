@@ -1,7 +1,6 @@
 -- The senders after their run, with their workers in their places again.
 use Rattle.std.proofs.Common.{◌≡◌, ℕ, true, Bool, List, [], ◌∷◌, ◌++◌, map, reverse, Option, ap, sym, subst, ◌∙◌, arith}
 use Rattle.std.specs.List.{AllByRecursion, AllZip}
-use Rattle.crossbeam_queue.specs.Passes.{view}
 use Rattle.atomic_table.specs.Seated.{TableId}
 use Rattle.br_claim.specs.Claims.{Seated}
 use Rattle.br_model.specs.Volume.{Volume}
@@ -16,6 +15,7 @@ use Rattle.br_pool.specs.declared.worker.Worker.{Worker}
 use Rattle.br_pool.specs.Crew.{Has, HasAll, crew, hired}
 use Rattle.br_pool.specs.Gathering.{IsStill, Takes, hits_of_batches}
 use Rattle.br_pool.specs.Gathers.{Gathers, HasHired, HasRunFor, HasTakenIn, by_sending, sent_of, shown_to}
+use Rattle.br_pool.specs.Outlets.{outlet_view}
 use Rattle.br_pool.specs.Pool.{StandsTold}
 use Rattle.br_pool.specs.Sending.{AreIn, HasRunSending, IsPassAt, IsSetUpToSend}
 use Rattle.br_pool.specs.Workers.{Answer, HasWorkedBy, IsSetUp}
@@ -44,9 +44,9 @@ zip_unmap R f (x ∷ xs) (y ∷ ys) z = (z.0, zip_unmap R f xs ys z.1)
 
 -- workers that are set up, each with a pass of its own
 pub all_set_up : {D : Type 0} (table claims : TableId) (n : ℕ) (senders : List (Sender D)) (workers : List (Worker D)) → reverse (map (λ (s : Sender D). s.worker) senders) ≡ workers
-    → AllByRecursion (IsSetUp claims n) workers → AllByRecursion (λ (s : Sender D). IsPassAt table s.pass × (view s.pass ≡ hired)) senders → AllByRecursion (IsSetUpToSend table claims n) senders
+    → AllByRecursion (IsSetUp claims n) workers → AllByRecursion (λ (s : Sender D). IsPassAt table s.outlet.pass × (outlet_view s.outlet ≡ hired)) senders → AllByRecursion (IsSetUpToSend table claims n) senders
 all_set_up {D} table claims n senders workers e ready passes =
-    all_both (λ (s : Sender D). IsSetUp claims n s.worker) (λ (s : Sender D). IsPassAt table s.pass × (view s.pass ≡ hired)) (IsSetUpToSend table claims n)
+    all_both (λ (s : Sender D). IsSetUp claims n s.worker) (λ (s : Sender D). IsPassAt table s.outlet.pass × (outlet_view s.outlet ≡ hired)) (IsSetUpToSend table claims n)
     (λ s p q. (p, q.0, q.1)) senders
     (all_unmap (IsSetUp claims n) (λ (s : Sender D). s.worker) senders
     (subst (AllByRecursion (IsSetUp claims n)) (reverse_reverse (map (λ (s : Sender D). s.worker) senders))
@@ -68,12 +68,12 @@ worked_so is weaker so claims pieces left before after failed_before failed_afte
 }
 
 module _ {D : Type 0} (shows : D → Option (List Volume)) (failures : D → ℕ) (table claims : TableId) (pieces : List Piece) (left : List ℕ) where
-  run_for : (sent : List Hit) (a b : Sender D) → HasRunSending shows failures table claims pieces left a b → AreIn (hits_of_batches (view b.pass).pushed) sent
+  run_for : (sent : List Hit) (a b : Sender D) → HasRunSending shows failures table claims pieces left a b → AreIn (hits_of_batches (outlet_view b.outlet).pushed) sent
       → HasRunFor shows failures claims pieces left sent a.worker b.worker
   run_for sent a b ran inside =
-      worked_so (by_sending pieces shows (hits_of_batches (view b.pass).pushed) a.worker b.worker) (by_sending pieces shows sent a.worker b.worker)
+      worked_so (by_sending pieces shows (hits_of_batches (outlet_view b.outlet).pushed) a.worker b.worker) (by_sending pieces shows sent a.worker b.worker)
       (sent_weaker (λ volumes. StandsTold pieces volumes (shows a.worker.reader.drive) (shows b.worker.reader.drive)) (λ volumes. StandsTold pieces volumes (shows a.worker.reader.drive) (shows b.worker.reader.drive))
-      (hits_of_batches (view b.pass).pushed) sent (λ volumes told. told) inside)
+      (hits_of_batches (outlet_view b.outlet).pushed) sent (λ volumes told. told) inside)
       claims pieces left (shows a.worker.reader.drive) (shows b.worker.reader.drive) (failures a.worker.reader.drive) (failures b.worker.reader.drive)
       a.worker.reader.out b.worker.reader.out b.worker.seat b.worker.answers.items ran.1.worked
 
@@ -86,7 +86,7 @@ module _ {D : Type 0} (shows : D → Option (List Volume)) (failures : D → ℕ
       (zip_reverse (HasRunFor shows failures claims pieces left sent) (map worker before) (map worker after)
       (zip_map (HasRunFor shows failures claims pieces left sent) worker before after
       (zip_with_all (HasRunSending shows failures table claims pieces left) (λ (a b : Sender D). HasRunFor shows failures claims pieces left sent a.worker b.worker)
-      (λ (s : Sender D). AreIn (hits_of_batches (view s.pass).pushed) sent) (run_for sent) before after z inside))))
+      (λ (s : Sender D). AreIn (hits_of_batches (outlet_view s.outlet).pushed) sent) (run_for sent) before after z inside))))
     where
       worker : Sender D → Worker D
       worker s = s.worker
@@ -94,20 +94,20 @@ module _ {D : Type 0} (shows : D → Option (List Volume)) (failures : D → ℕ
       sent : List Hit
       sent = hits_of_batches (sent_of after)
 
-      inside : AllByRecursion (λ (s : Sender D). AreIn (hits_of_batches (view s.pass).pushed) (hits_of_batches (sent_of after))) after
+      inside : AllByRecursion (λ (s : Sender D). AreIn (hits_of_batches (outlet_view s.outlet).pushed) (hits_of_batches (sent_of after))) after
       inside =
-          subst (AllByRecursion (λ (s : Sender D). AreIn (hits_of_batches (view s.pass).pushed) (hits_of_batches (sent_of after)))) (reverse_reverse after)
-          (all_reverse (λ (s : Sender D). AreIn (hits_of_batches (view s.pass).pushed) (hits_of_batches (sent_of after))) (reverse after) (each_inside (λ (s : Sender D). (view s.pass).pushed) (reverse after)))
+          subst (AllByRecursion (λ (s : Sender D). AreIn (hits_of_batches (outlet_view s.outlet).pushed) (hits_of_batches (sent_of after)))) (reverse_reverse after)
+          (all_reverse (λ (s : Sender D). AreIn (hits_of_batches (outlet_view s.outlet).pushed) (hits_of_batches (sent_of after))) (reverse after) (each_inside (λ (s : Sender D). (outlet_view s.outlet).pushed) (reverse after)))
 
   -- walks come to all hits that were pushed
   pub all_come : (before after : List (Sender D)) (ws vs : List (Worker D)) → reverse (map (λ (s : Sender D). s.worker) before) ≡ ws → vs ≡ reverse (map (λ (s : Sender D). s.worker) after)
       → AllZip (HasRunSending shows failures table claims pieces left) before after
       → (volumes : List Volume) → AllZip (StandsTold pieces volumes) (shown_to shows ws) (shown_to shows vs) → AllComeTo volumes pieces (hits_of_batches (sent_of after))
   all_come before after ws vs p q z volumes told =
-      come_of_all volumes pieces (λ (a b : Sender D). StandsTold pieces volumes (shows a.worker.reader.drive) (shows b.worker.reader.drive)) (λ (s : Sender D). (view s.pass).pushed) (reverse before) (reverse after)
+      come_of_all volumes pieces (λ (a b : Sender D). StandsTold pieces volumes (shows a.worker.reader.drive) (shows b.worker.reader.drive)) (λ (s : Sender D). (outlet_view s.outlet).pushed) (reverse before) (reverse after)
       (zip_reverse _ before after
       (zip_so (HasRunSending shows failures table claims pieces left)
-      (λ (a b : Sender D). StandsTold pieces volumes (shows a.worker.reader.drive) (shows b.worker.reader.drive) → AllComeTo volumes pieces (hits_of_batches (view b.pass).pushed))
+      (λ (a b : Sender D). StandsTold pieces volumes (shows a.worker.reader.drive) (shows b.worker.reader.drive) → AllComeTo volumes pieces (hits_of_batches (outlet_view b.outlet).pushed))
       (λ a b r t. r.1.come volumes t) before after z))
       (zip_unmap (StandsTold pieces volumes) (λ (s : Sender D). shows s.worker.reader.drive) (reverse before) (reverse after)
       (subst (λ l. AllZip (StandsTold pieces volumes) l (map (λ (s : Sender D). shows s.worker.reader.drive) (reverse after)))
@@ -117,9 +117,10 @@ module _ {D : Type 0} (shows : D → Option (List Volume)) (failures : D → ℕ
 
 -- ---- what the gatherer takes in the end
 
--- u is its view at first, v after the hiring, w after the run, x after it took all passes in, and y at the end
+-- u is its view at first, v after the hiring, w after the run, x after it took all passes in, and y at
+-- the end; a, b and d are the joiner before the run, after it and at the end
 pub gathered : (over : List Volume → Type 0) (pieces : List Piece) (P Q R : Type 0) (n : ℕ) (batches : List Batch) (u v w x y : Crew) (a b d : Joining)
-    → u ≡ crew true 65536 [] [] → HasHired n u v → IsStill v w → Takes P v w a b → HasTakenIn n batches w x → IsStill x y → Takes Q x y b d
+    → u ≡ crew true 65536 [] [] → HasHired n u v → IsStill v w → Takes P v w a b → HasTakenIn n batches w x → IsStill x y → Takes Q w y b d
     → HasAll y.pushed y.popped → (y.parts ≡ 65536 → HasAll y.popped y.pushed) → (R → P) → (R → Q)
     → ((volumes : List Volume) → over volumes → AllComeTo volumes pieces (hits_of_batches batches))
     → Gathers over pieces a d (λ taken. R → AreIn (hits_of_batches batches) taken)
@@ -137,7 +138,7 @@ gathered over pieces P Q R n batches u v w x y a b d first few still took more r
     pushed = rest.2 ∙ more.2 ∙ ap (λ l. l ++ batches) (still.2 ∙ few.2 ∙ ap (λ (z : Crew). z.pushed) first)
 
     popped : y.popped ≡ took.popped ++ last.popped
-    popped = last.adds ∙ ap (λ l. l ++ last.popped) (more.3 ∙ took.adds ∙ ap (λ l. l ++ took.popped) (few.3 ∙ ap (λ (z : Crew). z.popped) first))
+    popped = last.adds ∙ ap (λ l. l ++ last.popped) (took.adds ∙ ap (λ l. l ++ took.popped) (few.3 ∙ ap (λ (z : Crew). z.popped) first))
 
     parts : y.parts ≡ 65536
     parts = let a = rest.1 in let b = more.1 in let d = still.1 in let e = few.1 in let k = ap (λ (z : Crew). z.parts) first in omega (arith, a, b, d, e, k)

@@ -1,6 +1,5 @@
 -- What the workers answered, each with its drive, as what all drives answered.
 use Rattle.std.proofs.Common.{◌≡◌, ℕ, zero, suc, ◌+◌, ◌<◌, ◌⊎◌, inl, inr, Bool, true, false, cond, List, [], ◌∷◌, ◌++◌, map, flat_map, length, Option, refl, ap, sym, subst, ◌∙◌, arith, eqb, eqb-true, eq-eqb}
-use Rattle.std.specs.Prelude.{◌||◌}
 use Rattle.std.specs.List.{AllByRecursion, AllZip}
 use Rattle.atomic_table.specs.Seated.{TableId}
 use Rattle.br_model.specs.Volume.{Volume}

@@ -2,12 +2,12 @@
 use Rattle.std.specs.Prelude.{◌≡◌, ℕ, ◌+◌, true, Bool, List, ◌++◌, map, reverse, flat_map, Option}
 use Rattle.std.specs.List.{AllZip}
 use Rattle.atomic_table.specs.Seated.{TableId}
-use Rattle.crossbeam_queue.specs.Passes.{view}
 use Rattle.br_model.specs.Volume.{Volume}
 use Rattle.br_model.specs.Meaning.{Piece, Hit}
 use Rattle.br_match.specs.Come.{AllComeTo}
 use Rattle.br_match.specs.declared.hit.Batch.{Batch}
 use Rattle.br_join.specs.Joining.{Joining, with_batch}
+use Rattle.br_pool.specs.Outlets.{outlet_view}
 use Rattle.br_pool.specs.Pool.{StandsTold}
 use Rattle.br_pool.specs.Sending.{AreIn, IsSent}
 use Rattle.br_pool.specs.Workers.{Answer, HasWorkedBy}
@@ -20,13 +20,13 @@ use Rattle.br_pool.specs.declared.worker.Worker.{Worker}
 abbrev pub HasHired : ℕ → Crew → Crew → Type 0
 HasHired n v w = (w.gathers ≡ v.gathers) × (w.parts + n ≡ v.parts) × (w.pushed ≡ v.pushed) × (w.popped ≡ v.popped)
 
--- the same pass with n more parts, which took in passes that pushed these batches
+-- the same pass with n more parts, which took in passes that pushed these batches, and maybe popped some
 abbrev pub HasTakenIn : ℕ → List Batch → Crew → Crew → Type 0
-HasTakenIn n batches v w = (w.gathers ≡ v.gathers) × (w.parts ≡ v.parts + n) × (w.pushed ≡ v.pushed ++ batches) × (w.popped ≡ v.popped)
+HasTakenIn n batches v w = (w.gathers ≡ v.gathers) × (w.parts ≡ v.parts + n) × (w.pushed ≡ v.pushed ++ batches)
 
--- what the senders pushed, from the last one to the first
+-- what the senders sent, from the last one to the first
 abbrev pub sent_of : {D : Type 0} → List (Sender D) → List Batch
-sent_of {D} senders = flat_map (λ (s : Sender D). (view s.pass).pushed) (reverse senders)
+sent_of {D} senders = flat_map (λ (s : Sender D). (outlet_view s.outlet).pushed) (reverse senders)
 
 -- The joiner took hits. Walks come to these hits over all volumes for which `over` holds, and this
 -- predicate holds of the hits.

@@ -6,6 +6,7 @@ pub mod Reading
 pub mod Rounds
 pub mod Crew
 pub mod Gathering
+pub mod Outlets
 pub mod Sending
 pub mod Gathers
 pub mod Streaming

@@ -2,7 +2,7 @@
 use Rattle.std.specs.Prelude.{◌≡◌, ℕ, ◌<◌, Bool, false, List, [], ◌∷◌, length, Contains, Option, Ok, Err}
 use Rattle.std.specs.List.{AllByRecursion}
 use Rattle.atomic_table.specs.Seated.{TableId}
-use Rattle.crossbeam_queue.specs.Passes.{Pass, view}
+use Rattle.crossbeam_queue.specs.Passes.{Pass}
 use Rattle.br_model.specs.Answer.{IsRefusal}
 use Rattle.br_model.specs.Volume.{Volume}
 use Rattle.br_model.specs.Meaning.{Piece, Hit, hits_on}
@@ -11,6 +11,7 @@ use Rattle.br_match.specs.Walk.{Over}
 use Rattle.br_match.specs.Come.{AllComeTo}
 use Rattle.br_pool.specs.Crew.{hired}
 use Rattle.br_pool.specs.Gathering.{Pushes, hits_of_batches}
+use Rattle.br_pool.specs.Outlets.{outlet_view}
 use Rattle.br_pool.specs.Pool.{StandsTold}
 use Rattle.br_pool.specs.Workers.{Answer, EachAt, HasWorkedBy, IsSetUp, is_failure}
 use Rattle.br_claim.specs.Claims.{Seated}
@@ -35,13 +36,13 @@ pub record IsSent (over : List Volume → Type 0) (sent : List Hit) (p : Piece) 
   pub hits : (volumes : List Volume) → over volumes → SaysSent volumes sent p a
   pub sound : is_failure a ≡ false
 
--- Hits were pushed. Over the volumes that the drive may be taken to show, the walk of the piece comes to
+-- Hits were sent. Over the volumes that the drive may be taken to show, the walk of the piece comes to
 -- each of them, and they are those of the piece if it is not refused.
 abbrev pub SendsOver : Option (List Volume) → Option (List Volume) → Piece → Crew → Crew → Answer → Type 0
 SendsOver earlier later piece v w result =
     (hits : List Hit) × Pushes v w hits × Over earlier later piece (λ volumes. AllComeTo volumes (piece ∷ []) hits × SaysSent volumes hits piece result)
 
--- What a worker sent in its run, as its pass knows it. Over the volumes that its drive may be taken
+-- What a worker sent in its run, as its outlet shows it. Over the volumes that its drive may be taken
 -- to show, walks of pieces come to each of these hits. Its answers are those of pieces whose hits
 -- are among them.
 pub record HasSent (claims : TableId) (pieces : List Piece) (left : List ℕ) (before after : Option (List Volume)) (failed_before failed_after : ℕ) (was_out is_out : Bool) (seat : Seated) (answers : List (ℕ × Answer)) (v : Crew) : Type 0 where
@@ -55,18 +56,18 @@ IsPassAt table pass = (pass.table_id ≡ table) × (pass.me.1 ≡ [])
 
 -- a sender before its run
 abbrev pub IsSetUpToSend : {D : Type 0} → TableId → TableId → ℕ → Sender D → Type 0
-IsSetUpToSend table claims n sender = IsSetUp claims n sender.worker × IsPassAt table sender.pass × (view sender.pass ≡ hired)
+IsSetUpToSend table claims n sender = IsSetUp claims n sender.worker × IsPassAt table sender.outlet.pass × (outlet_view sender.outlet ≡ hired)
 
 -- a sender before its run and after it
 abbrev pub HasRunSending : {D : Type 0} → (D → Option (List Volume)) → (D → ℕ) → TableId → TableId → List Piece → List ℕ → Sender D → Sender D → Type 0
 HasRunSending shows failures table claims pieces left before after =
-    IsPassAt table after.pass
+    IsPassAt table after.outlet.pass
     × HasSent claims pieces left (shows before.worker.reader.drive) (shows after.worker.reader.drive) (failures before.worker.reader.drive) (failures after.worker.reader.drive)
-    before.worker.reader.out after.worker.reader.out after.worker.seat after.worker.answers.items (view after.pass)
+    before.worker.reader.out after.worker.reader.out after.worker.seat after.worker.answers.items (outlet_view after.outlet)
 
 -- ---- a round
 
--- what a reader sent in this round, by this seat and this pass
+-- what a reader sent in this round, by this seat and an outlet that shows this
 abbrev pub HasSentIn : {D G : Type 0} → (D → Option (List Volume)) → (D → ℕ) → SendRound G → Reader D → Reader D → Seated → List (ℕ × Answer) → Crew → Type 0
 HasSentIn shows failures sending before after =
     HasSent sending.round.now.claims.now.claims sending.round.now.pieces.now sending.round.now.left.now (shows before.drive) (shows after.drive)

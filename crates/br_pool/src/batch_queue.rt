@@ -1,5 +1,5 @@
 //! The queue by which workers send batches to the gatherer: its rule, and its passes.
-ghost use Rattle.std.specs.Prelude.{◌≡◌, ◌<◌, [], true, IfOk, IfSome, IfNone};
+ghost use Rattle.std.specs.Prelude.{◌≡◌, ◌<◌, [], true, IfErr, IfOk, IfSome, IfNone, OnErr, OnOk};
 ghost use Rattle.crossbeam_queue.specs.Passes.{view, IsPassOf};
 ghost use Rattle.br_pool.specs.Crew.{HasAll, crew, hired, joined, one_part_fewer, sent_by, taken_by};
 
@@ -120,6 +120,26 @@ pub(crate) fn take_in(line: &Line, pass: &mut CrewPass, other: CrewPass)
     line.absorb::<OnePart>(pass, other);
 }
 
+/// Pushes a batch. Returns it if the queue is full.
+pub(crate) fn try_send<R: Wait>(
+    rt: &R,
+    line: &Line,
+    pass: &mut CrewPass,
+    batch: Batch,
+) -> Result<(), Batch>
+    requires pass { IsPassOf line.now pass.old }
+    requires part { 0 < (view pass.old).parts }
+    ensures pass { IsPassOf line.now pass.new }
+    ensures sent { OnOk result (view pass.new ≡ sent_by (view pass.old) batch) }
+    ensures same { OnErr result (view pass.new ≡ view pass.old) }
+    ensures back { IfErr result (λ back. back ≡ batch) }
+{
+    match line.push_as::<Sends, R>(rt, pass, batch) {
+        Ok(()) => Ok(()),
+        Err(back) => Err(back),
+    }
+}
+
 /// Pushes a batch. Waits while the queue is full.
 pub(crate) fn send<R: Wait>(rt: &R, line: &Line, course: &Course, pass: &mut CrewPass, batch: Batch)
     requires pass { IsPassOf line.now pass.old }
@@ -129,7 +149,7 @@ pub(crate) fn send<R: Wait>(rt: &R, line: &Line, course: &Course, pass: &mut Cre
 {
     let mut waiting = batch;
     for _ in rt.forever() {
-        match line.push_as::<Sends, R>(rt, pass, waiting) {
+        match try_send(rt, line, pass, waiting) {
             Ok(()) => {
                 course.note_sent();
                 return;

@@ -10,6 +10,7 @@ mod batch_queue;
 mod fault;
 mod gate;
 mod gathering;
+mod outlet;
 mod pool;
 mod readers;
 mod round_course;

@@ -1,4 +1,4 @@
-//! The state of a round: what the gatherer and the senders have reached.
+//! The state of a round: whether the gatherer has begun, and whether the senders have ended.
 
 use std::sync::Wait;
 use std::sync::atomic::{AtomicU64, Ordering};
@@ -13,24 +13,15 @@ const BEGUN: u64 = 1;
 /// The senders have ended.
 const ENDED: u64 = 2;
 
-/// The gatherer did not begin, so the senders send nothing.
-const LEFT: u64 = 3;
-
-/// The number of times that the senders wait for a gatherer that has not begun, before they go on
-/// without it.
-const MOST_WAITS: u64 = 1_000;
-
-/// The longest wait for a gatherer that has not begun, in milliseconds.
-const LONGEST_WAIT: u64 = 10;
-
 /// The longest sleep while the senders send, in milliseconds.
 const LONGEST_SLEEP: u64 = 5;
 
 /// The number of batches after which a sender wakes the gatherer: half of a queue for 64.
 const BATCHES_FOR_A_WAKE: u64 = 32;
 
-/// The state of a round. The senders send only if the gatherer has begun, and it gathers until they
-/// have ended. So no sender waits for a gatherer that is not there.
+/// The state of a round. A sender waits for room in the queue only if the gatherer has begun, and
+/// the gatherer gathers until the senders have ended. So no sender waits for a gatherer that is not
+/// there, and none gives up because it is late.
 #[derive(Drop)]
 pub(crate) struct Course {
     state: AtomicU64,
@@ -47,24 +38,16 @@ impl Course {
         }
     }
 
-    /// Notes that the gatherer has begun, unless the senders have gone on without it.
+    /// Notes that the gatherer has begun, unless the senders have ended without it.
     pub(crate) fn begin(&self) {
-        if self.passes_to(BEGUN) {
-            self.state.wake_all();
-        }
+        let _before = self
+            .state
+            .compare_exchange(AWAITED, BEGUN, Ordering::SeqCst, Ordering::SeqCst);
     }
 
-    /// Waits until the gatherer has begun, for ten seconds at most. If it has not begun by then, the
-    /// senders go on without it.
-    pub(crate) fn await_gatherer<R: Wait>(&self, rt: &R) {
-        for _ in 0..MOST_WAITS {
-            if self.state.load(Ordering::SeqCst) != AWAITED {
-                return;
-            }
-            let longest = Duration::from_millis(LONGEST_WAIT);
-            self.state.park_timeout(rt, AWAITED as u32, longest);
-        }
-        self.passes_to(LEFT);
+    /// Returns whether the gatherer has begun and the senders have not ended.
+    pub(crate) fn has_begun(&self) -> bool {
+        self.state.load(Ordering::SeqCst) == BEGUN
     }
 
     /// Notes that the senders have ended.
@@ -73,15 +56,9 @@ impl Course {
         self.state.wake_all();
     }
 
-    /// Returns whether the senders have gone on without the gatherer.
-    pub(crate) fn is_left(&self) -> bool {
-        self.state.load(Ordering::SeqCst) == LEFT
-    }
-
-    /// Returns whether nothing more is sent: the senders have ended, or have given up.
+    /// Returns whether the senders have ended, so that nothing more is sent.
     pub(crate) fn is_over(&self) -> bool {
-        let state = self.state.load(Ordering::SeqCst);
-        state == ENDED || state == LEFT
+        self.state.load(Ordering::SeqCst) == ENDED
     }
 
     /// Notes that a batch was sent. Wakes the gatherer if the queue may be half full.
@@ -102,12 +79,5 @@ impl Course {
     pub(crate) fn sleep<R: Wait>(&self, rt: &R) {
         let longest = Duration::from_millis(LONGEST_SLEEP);
         self.state.park_timeout(rt, BEGUN as u32, longest);
-    }
-
-    /// Changes to a state if the gatherer is awaited. Returns whether it was.
-    fn passes_to(&self, state: u64) -> bool {
-        self.state
-            .compare_exchange(AWAITED, state, Ordering::SeqCst, Ordering::SeqCst)
-            .is_ok()
     }
 }

@@ -6,13 +6,15 @@ ghost use Rattle.std.specs.Thread.{IsSend, IsSync};
 ghost use Rattle.crossbeam_queue.specs.Passes.{view, IsPassOf};
 ghost use Rattle.br_pool.specs.Crew.{HasAll, crew, hired};
 ghost use Rattle.br_pool.specs.Gathering.{IsStill, Takes};
+ghost use Rattle.br_pool.specs.Outlets.{outlet_view};
 ghost use Rattle.br_pool.specs.Gathers.{HasHired, HasTakenIn, HaveSentIn, sent_of};
 ghost use Rattle.br_pool.specs.Sending.{AreSetUpIn, HasRunIn, IsPassAt, IsSetUpIn};
 ghost use Rattle.br_pool.specs.Workers.{EachAt, EachPairAt, IsSetUp};
 
 use crate::batch_queue::{CrewPass, Line, pass_for_worker, take_in};
 use crate::gate::Gate;
-use crate::gathering::{gather, gather_sent};
+use crate::gathering::{gather, gather_sent, give_kept};
+use crate::outlet::Outlet;
 use crate::sender::{SendRound, Sender, run_senders};
 use crate::worker::Worker;
 use br_join::Joiner;
@@ -55,43 +57,55 @@ fn hire<D: Drive>(
     ensures none { workers.new.items ≡ [] }
     ensures room { vec_capacity workers.new ≡ vec_capacity workers.old }
     ensures workers { reverse (map (λ (s : Sender D). s.worker) senders.new.items) ≡ workers.old.items }
-    ensures hired { AllByRecursion (λ (s : Sender D). IsPassAt line.now.table.shared.table_id s.pass × (view s.pass ≡ hired))
-        senders.new.items }
+    ensures hired { AllByRecursion (λ (s : Sender D). IsPassAt line.now.table.shared.table_id s.outlet.pass
+        × (outlet_view s.outlet ≡ hired)) senders.new.items }
 {
     while !workers.is_empty() {
         let worker = workers.take_last();
         let own = pass_for_worker(line, pass);
-        senders.push_reserved(Sender { worker, pass: own });
+        let outlet = Outlet::new(*workers.allocator(), own);
+        senders.push_reserved(Sender { worker, outlet });
     }
 }
 
-/// Takes the senders apart, the last one first. Their workers go back; their passes are taken in.
-fn dismiss<D: Drive>(
+/// Takes the senders apart, the last one first. Their workers go back; their passes are taken in. What
+/// they keep is pushed before, and goes to the joiner if the queue is full. Returns whether nothing
+/// was lost.
+fn dismiss<D: Drive, R: Wait>(
+    rt: &R,
     line: &Line,
     pass: &mut CrewPass,
     mut senders: Vec<Sender<D>>,
     workers: &mut Vec<Worker<D>>,
-)
+    joiner: &mut Joiner,
+) -> bool
     requires pass { IsPassOf line.now pass.old }
-    requires passes { AllByRecursion (λ (s : Sender D). IsPassAt line.now.table.shared.table_id s.pass × ((view s.pass).parts ≡ 1))
-        senders.items }
+    requires gathers { (view pass.old).gathers ≡ true }
+    requires passes { AllByRecursion (λ (s : Sender D). IsPassAt line.now.table.shared.table_id s.outlet.pass
+        × ((outlet_view s.outlet).parts ≡ 1)) senders.items }
     requires none { workers.old.items ≡ [] }
     requires room { length senders.items ≤ vec_capacity workers.old }
     ensures pass { IsPassOf line.now pass.new }
     ensures taken { HasTakenIn (length senders.items) (sent_of senders.items) (view pass.old) (view pass.new) }
+    ensures took { Takes (IsTrue result) (view pass.old) (view pass.new) joiner.old joiner.new }
     ensures workers { workers.new.items ≡ reverse (map (λ (s : Sender D). s.worker) senders.items) }
 {
+    let mut fine = true;
     while !senders.is_empty() {
-        let Sender { worker, pass: own } = senders.take_last();
+        let Sender { worker, outlet } = senders.take_last();
+        let Outlet { pass: own, kept } = outlet;
+        let mut own = own;
+        fine &= give_kept(rt, line, pass, joiner, &mut own, kept);
         take_in(line, pass, own);
         workers.push_reserved(worker);
     }
     senders.destroy_empty();
+    fine
 }
 
 /// Runs the senders, one in this thread and each of the others in its own thread, while another
 /// thread gives the joiner what they send. Returns whether nothing was lost. If no thread can be
-/// made for the joiner, the senders refuse their pieces.
+/// made for the joiner, this thread gives it what is in the queue after the senders have ended.
 fn run_both<D: Drive + Send, G: Gate + Sync, R: Threads + Wait + Sync>(
     rt: &R,
     sending: &SendRound<'_, G>,
@@ -118,7 +132,6 @@ fn run_both<D: Drive + Send, G: Gate + Sync, R: Threads + Wait + Sync>(
             requires { IsSync R.row × IsSend D.row × IsSync G.row × AreSetUpIn sending.now senders.now }
             ensures { EachPairAt (HasRunIn D.shows D.failures sending.entry.now) senders.entry.now senders.exit.now }
         {
-            course.await_gatherer(rt);
             run_senders(rt, sending, senders);
             course.end();
         },
@@ -171,10 +184,7 @@ pub(crate) fn send_all<D: Drive + Send, G: Gate + Sync, R: Threads + Wait + Sync
     let line = sending.line;
     hire(line, &mut pass, &mut workers, &mut senders);
     let (senders, fine) = run_all(rt, sending, senders, &mut pass, joiner);
-    dismiss(line, &mut pass, senders, &mut workers);
+    let kept = dismiss(rt, line, &mut pass, senders, &mut workers, joiner);
     let rest = gather(rt, line, &mut pass, joiner, sending.course);
-    if !rest {
-        return (workers, false);
-    }
-    (workers, fine)
+    (workers, fine & kept & rest)
 }

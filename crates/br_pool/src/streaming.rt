@@ -27,7 +27,6 @@ use br_piece::Piece;
 use br_volume::Drive;
 use std::alloc::{AllocError, Global};
 use std::sync::Wait;
-use std::thread;
 use std::thread::Threads;
 
 /// The pieces to be read, the gate for each, and the number of batches for which the queue has room.
@@ -44,13 +43,6 @@ struct RoundTask<'r, G: Gate> {
     round: &'r Round<'r, G>,
     room: usize,
     alloc: Global,
-}
-
-/// Makes a thread that does nothing, and waits for its end. If no thread can be made, the drives
-/// and the joiner would have to take turns, so the round is refused before it begins.
-fn try_thread<R: Threads>(rt: &R) -> Result<(), AllocError> {
-    thread::spawn(rt, || {})?.join(rt);
-    Ok(())
 }
 
 /// Reads pieces with the readers while the joiner takes their hits, and fills the slots `into` with
@@ -79,7 +71,6 @@ fn read_to<D: Drive + Send, G: Gate + Sync, R: Threads + Wait + Sync>(
     let alloc = task.alloc;
     let mut seats = Vec::with_capacity(alloc, shares.len())?;
     let (line, pass) = open_line(alloc, task.room)?;
-    try_thread(rt)?;
     let (mut workers, senders) = lists_for(alloc, shares.len())?;
     into_workers(readers, shares, &mut workers);
     let course = Course::new();
@@ -187,15 +178,16 @@ fn close_all(joiner: &mut Joiner, pieces: &[Piece])
 /// One of the drives reads each piece, as `match_piece` does. Each drive works in its own thread.
 ///
 /// There are 1 to 16 drives, and the pieces are those of a bootstrap, for which the joiner was made.
-/// At most `room` batches wait between the drives and the joiner. After success the joiner is ready:
-/// it has all hits, and each piece is closed. The gate is called before and after each piece. A drive
-/// that failed reads no further piece. The drives that did not fail read its piece again, in a further
-/// round. In each case the drives are in their places again.
+/// At most `room` batches wait between the drives and the joiner, once the joiner has a thread. Until
+/// then the drives keep those for which there is no room. If no thread can be made, the joiner takes
+/// all hits after the drives have read. After success the joiner is ready: it has all hits, and each
+/// piece is closed. The gate is called before and after each piece. A drive that failed reads no
+/// further piece. The drives that did not fail read its piece again, in a further round. In each case
+/// the drives are in their places again.
 ///
 /// # Errors
 ///
-/// - `Memory` if memory ran out, for any piece, or if no thread can be made, or none begins within
-///   ten seconds.
+/// - `Memory` if memory ran out, for any piece.
 /// - `NoDriveLeft` if each drive failed before all pieces were read.
 /// - `Piece` with the fault of the first piece that has one.
 ///

@@ -1,9 +1,9 @@
 use Rattle.std.proofs.Common.{◌≡◌, List, [], false, ◌≤◌, ◌-◌, ◌+◌, length, map, vec_len, vec_capacity}
-use Rattle.crossbeam_queue.specs.Passes.{view}
 use Rattle.br_model.specs.Volume.{Volume}
 use Rattle.br_volume.specs.Drive.{OnlyGrows}
 use Rattle.br_match.specs.Come.{AllComeTo}
 use Rattle.br_pool.specs.Gathering.{hits_of_batches}
+use Rattle.br_pool.specs.Outlets.{outlet_view}
 use Rattle.br_pool.specs.Pool.{StandsTold}
 use Rattle.br_pool.specs.Sending.{IsSent}
 use Rattle.br_pool.specs.Workers.{EachHolds, number_at, numbers_of}
@@ -18,11 +18,11 @@ invariant-loop-place g l = record {
   grows : OnlyGrows (g.D.Drive.shows l.fn.reader.drive) (g.D.Drive.shows l.reader.drive);
   counted : g.D.Drive.failures l.fn.reader.drive ≤ g.D.Drive.failures l.reader.drive;
   drawn : numbers_of l.answers.items ≡ map (number_at l.sending.round.now.left.now) l.seat.drawn;
-  pass : (l.pass.table_id ≡ l.sending.line.now.table.shared.table_id) × (l.pass.me.1 ≡ []);
-  parts : (view l.pass).parts ≡ 1;
+  pass : (l.outlet.pass.table_id ≡ l.sending.line.now.table.shared.table_id) × (l.outlet.pass.me.1 ≡ []);
+  parts : (outlet_view l.outlet).parts ≡ 1;
   come : (volumes : List Volume) → StandsTold l.sending.round.now.pieces.now volumes (g.D.Drive.shows l.fn.reader.drive) (g.D.Drive.shows l.reader.drive)
-      → AllComeTo volumes l.sending.round.now.pieces.now (hits_of_batches (view l.pass).pushed);
-  each : EachHolds (IsSent (λ volumes. StandsTold l.sending.round.now.pieces.now volumes (g.D.Drive.shows l.fn.reader.drive) (g.D.Drive.shows l.reader.drive)) (hits_of_batches (view l.pass).pushed))
+      → AllComeTo volumes l.sending.round.now.pieces.now (hits_of_batches (outlet_view l.outlet).pushed);
+  each : EachHolds (IsSent (λ volumes. StandsTold l.sending.round.now.pieces.now volumes (g.D.Drive.shows l.fn.reader.drive) (g.D.Drive.shows l.reader.drive)) (hits_of_batches (outlet_view l.outlet).pushed))
       l.sending.round.now.pieces.now l.answers.items;
   many : vec_len l.answers ≡ length l.seat.drawn;
   room : l.sending.round.now.claims.now.limit ≤ vec_capacity l.answers;

@@ -1,13 +1,15 @@
 use Rattle.std.proofs.Common.{◌≡◌, Some, None, Ok, Err, List, [], ◌∷◌, ◌++◌, refl, sym, subst, ◌∙◌, arith}
 use Rattle.std.proofs.lemmas.Result.{err_from_is_err_and}
-use Rattle.crossbeam_queue.specs.Passes.{view}
 use Rattle.std.specs.Prelude.{⊤}
 use Rattle.br_model.specs.Meaning.{Piece, Hit, hits_on}
 use Rattle.br_match.specs.Come.{AllComeTo}
 use Rattle.br_match.specs.Walk.{AfterWalk, BlockGiven, Follows}
 use Rattle.br_volume.proofs.ExtendLaws.{grows_itself, grows_more}
 use Rattle.br_match.proofs.OverLaws.{over_any, over_join}
+use Rattle.br_pool.specs.Gathering.{Pushes}
+use Rattle.br_pool.specs.Outlets.{outlet_view}
 use Rattle.br_pool.specs.Sending.{AreIn, SaysSent}
+use Rattle.br_pool.specs.declared.batch_queue.Crew.{Crew}
 use Rattle.br_pool.proofs.GatheringLaws.{pushes_none, pushes_on}
 use Rattle.br_pool.proofs.SendingLaws.{WalksOn, walk_is_over, walk_stops, walks_first, walks_on}
 use Rattle.br_pool.proofs.sender.send_piece.Goals as goal
@@ -20,7 +22,7 @@ loop-walk-init g c =
     record {
       of = c.in_ok-walk.ensures.of;
       pass = (refl, refl);
-      sent = ([], pushes_none (view c.args.pass.now), over_any shows shows piece (WalksOn piece a []) (walks_first piece a c.in_ok-walk.ensures.start));
+      sent = ([], pushes_none (outlet_view c.args.outlet.now), over_any shows shows piece (WalksOn piece a []) (walks_first piece a c.in_ok-walk.ensures.start));
       grows = grows_itself shows;
       counted = omega arith;
     }
@@ -43,7 +45,7 @@ loop-walk-preserved g c =
       pass = (c.send_hits.ensures.pass.0 ∙ sym c.requires.pass.0, c.send_hits.ensures.pass.1 ∙ sym c.requires.pass.1);
       sent = (
         i.0 ++ batch.hits.items,
-        pushes_on (view c.args.pass.now) (view l.pass) (view c.send_hits.new.pass) i.0 batch.hits.items i.1 c.send_hits.ensures.sent,
+        pushes_on (outlet_view c.args.outlet.now) (outlet_view l.outlet) (outlet_view c.send_hits.new.outlet) i.0 batch.hits.items i.1 c.in_ok-send_hits.ensures.sent,
         over_join first second third piece (WalksOn piece a i.0) (λ volumes. Follows volumes piece a → BlockGiven piece a next (Ok (Some batch)) volumes)
             (WalksOn piece next (i.0 ++ batch.hits.items)) l.invariant.grows c.next.ensures.grows i.2 step (walks_on piece a next i.0 batch),
       );
@@ -103,4 +105,26 @@ returns-in_err-walk-clause-sent g c =
     let piece = c.args.piece.now in
     let shows = g.D.Drive.shows c.args.drive.now in
     let p = err_from_is_err_and c.from_residual.result c.from_residual.ensures.1 in
-    rw (p.1, p.2) ([], pushes_none (view c.args.pass.now), over_any shows shows piece (λ volumes. AllComeTo volumes (piece ∷ []) [] × ⊤) (λ volumes. (tt, tt)))
+    rw (p.1, p.2) ([], pushes_none (outlet_view c.args.outlet.now), over_any shows shows piece (λ volumes. AllComeTo volumes (piece ∷ []) [] × ⊤) (λ volumes. (tt, tt)))
+
+-- there was no memory to keep a batch
+pub returns-in_err-send_hits-clause-sent : goal.returns-in_err-send_hits-clause-sent
+returns-in_err-send_hits-clause-sent g c =
+    let piece = c.args.piece.now in
+    let l = c.loop-walk in
+    let i = l.invariant.sent in
+    let a = l.walk.addr in
+    let first = g.D.Drive.shows c.args.drive.now in
+    let second = g.D.Drive.shows l.drive in
+    let third = g.D.Drive.shows c.next.new.drive in
+    let p = err_from_is_err_and c.from_residual-in_err-send_hits.result c.from_residual-in_err-send_hits.ensures.1 in
+    rw (p.1, p.2) (
+      i.0,
+      subst (λ (w : Crew). Pushes (outlet_view c.args.outlet.now) w i.0) (sym c.in_err-send_hits.ensures.same) i.1,
+      over_join first second third piece (WalksOn piece a i.0) (λ volumes. ⊤) (λ volumes. AllComeTo volumes (piece ∷ []) i.0 × ⊤) l.invariant.grows c.next.ensures.grows i.2
+          (over_any second third piece (λ volumes. ⊤) (λ volumes. tt)) (λ volumes walks _. (walks.2, tt)),
+    )
+
+pub returns-in_err-send_hits-clause-grows : goal.returns-in_err-send_hits-clause-grows
+returns-in_err-send_hits-clause-grows g c =
+    grows_more (g.D.Drive.shows c.args.drive.now) (g.D.Drive.shows c.loop-walk.drive) (g.D.Drive.shows c.next.new.drive) c.loop-walk.invariant.grows c.next.ensures.grows

@@ -1,6 +1,6 @@
-use Rattle.std.proofs.Common.{◌≡◌, ◌++◌, map, reverse, ap, ◌∙◌, arith}
-use Rattle.crossbeam_queue.specs.Passes.{view}
+use Rattle.std.proofs.Common.{◌≡◌, ◌++◌, map, reverse, ap, sym, subst, ◌∙◌, arith}
 use Rattle.br_pool.specs.Crew.{hired}
+use Rattle.br_pool.specs.Outlets.{outlet_view}
 use Rattle.br_pool.specs.Sending.{IsPassAt}
 use Rattle.br_pool.specs.declared.batch_queue.Crew.{Crew}
 use Rattle.br_pool.specs.declared.sender.Sender.{Sender}
@@ -29,7 +29,7 @@ loop-workers-preserved g c = let i = c.loop-workers.invariant in
           rw pushed.items
           (ap (λ l. c.take_last-worker.new.self.items ++ l) (turned_more (λ (s : Sender g.row.D.Denot). s.worker) senders _)
           ∙ moved_back c.take_last-worker.new.self.items c.take_last-worker.result (reverse (map (λ (s : Sender g.row.D.Denot). s.worker) senders)) c.loop-workers.workers.items c.args.workers.now.items taken.items i.workers);
-      hired = rw pushed.items (all_more (λ (s : Sender g.row.D.Denot). IsPassAt c.args.line.now.table.shared.table_id s.pass × (view s.pass ≡ hired)) senders _ i.hired (own.passes.1, own.first));
+      hired = rw pushed.items (all_more (λ (s : Sender g.row.D.Denot). IsPassAt c.args.line.now.table.shared.table_id s.outlet.pass × (outlet_view s.outlet ≡ hired)) senders _ i.hired (subst (IsPassAt c.args.line.now.table.shared.table_id) (sym c.new-outlet.ensures.pass) own.passes.1, c.new-outlet.ensures.shown ∙ own.first));
       many = let a = i.many in let b = taken.len in let d = pushed.len in omega (arith, a, b, d);
       senders_room = let a = i.senders_room in let b = taken.len in let d = pushed.len in let e = pushed.capacity in omega (arith, a, b, d, e);
       room = taken.capacity ∙ i.room;

@@ -49,13 +49,6 @@ pub returns-in_err-line-clause-read : goal.returns-in_err-line-clause-read
 returns-in_err-line-clause-read g c =
     gathers_none (OverAll g.D.Drive.shows c.args.task.now.round.now.pieces.now c.args.readers.now.items c.args.readers.now.items) c.args.task.now.round.now.pieces.now c.args.joiner.now _ (never_ok _ _ c.from_residual-in_err-line.result c.from_residual-in_err-line.ensures.1)
 
-pub returns-in_err-try_thread-clause-served : goal.returns-in_err-try_thread-clause-served
-returns-in_err-try_thread-clause-served g c = all_served (λ (r : Reader g.row.D.Denot). g.D.Drive.shows r.drive) (λ (r : Reader g.row.D.Denot). g.D.Drive.failures r.drive) (λ (r : Reader g.row.D.Denot). r.out) c.args.readers.now.items
-
-pub returns-in_err-try_thread-clause-read : goal.returns-in_err-try_thread-clause-read
-returns-in_err-try_thread-clause-read g c =
-    gathers_none (OverAll g.D.Drive.shows c.args.task.now.round.now.pieces.now c.args.readers.now.items c.args.readers.now.items) c.args.task.now.round.now.pieces.now c.args.joiner.now _ (never_ok _ _ c.from_residual-in_err-try_thread.result c.from_residual-in_err-try_thread.ensures.1)
-
 pub out_of_workers-requires-clause-room : goal.out_of_workers-requires-clause-room
 out_of_workers-requires-clause-room g c =
     let a = zip_length _ c.args.shares.items c.into_workers.new.workers.items c.into_workers.ensures.shares in
