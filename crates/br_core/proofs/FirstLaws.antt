@@ -70,6 +70,7 @@ parts_first plan groups pieces waiting joined statuses joiner names of split all
     pieces_are = are;
     each = ap length stand ∙ length-map (pieces_of plan.groups) (λ (p : Piece). at.Waiting) ∙ ap length (sym are);
     names_are = ap (λ (j : Joining). option_map planned_in j.names) begins ∙ ap Some same;
+    room_is = ap (λ (j : Joining). j.room) begins;
     closed = closed;
     known = λ b among. absurd (none_in b among);
   },

@@ -13,6 +13,8 @@ use Rattle.br_model.specs.Plan as model
 use Rattle.br_model.proofs.ListLaws.{first_or_later, none_in}
 use Rattle.br_match.specs.declared.hit.Batch.{Batch}
 use Rattle.br_join.specs.Joining.{Joining, with_batch, with_closed}
+use Rattle.br_join.specs.Room.{data_in, filled}
+use Rattle.br_join.specs.declared.room.Room.{Room}
 use Rattle.br_core.specs.Parts.{AreParts}
 use Rattle.br_core.specs.Statuses.{is_finished, status_of}
 use Rattle.br_core.specs.declared.piece_status.Status.{Status}
@@ -41,6 +43,7 @@ parts_go plan pieces statuses transit joiner n was next at same parts = record {
   pieces_are = parts.pieces_are;
   each = length-set statuses n next ∙ parts.each;
   names_are = parts.names_are;
+  room_is = parts.room_is;
   closed = λ k. parts.closed k ∙ finished_as_was statuses n k was next at same (same_or_not k n);
   known = λ b among. subst (λ m. b.0 < m) (sym (length-set statuses n next)) (parts.known b among);
 }
@@ -55,6 +58,7 @@ parts_read plan pieces statuses transit joiner n address next batch at parts = r
   pieces_are = gone.pieces_are;
   each = gone.each;
   names_are = gone.names_are;
+  room_is = gone.room_is;
   closed = gone.closed;
   known = known;
 }
@@ -82,6 +86,7 @@ parts_taken plan pieces statuses transit joiner place batch parts = record {
   pieces_are = parts.pieces_are;
   each = parts.each;
   names_are = parts.names_are;
+  room_is = ap (λ (r : Room). filled r (data_in batch)) parts.room_is;
   closed = parts.closed;
   known = λ b among. parts.known b (was_there transit place b among);
 }
@@ -96,6 +101,7 @@ parts_finished plan pieces statuses transit joiner n address at parts = record {
   pieces_are = parts.pieces_are;
   each = length-set statuses n Finished ∙ parts.each;
   names_are = parts.names_are;
+  room_is = parts.room_is;
   closed = λ k. closed k (same_or_not k n);
   known = λ b among. subst (λ m. b.0 < m) (sym (length-set statuses n Finished)) (parts.known b among);
 }
