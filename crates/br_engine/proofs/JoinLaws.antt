@@ -1,5 +1,5 @@
 -- The files that are made of what a joiner took while drives read.
-use Rattle.std.proofs.Common.{◌≡◌, List, [], map, Option, Some, None, Result, Ok, Err, refl, ap, sym, subst, ◌∙◌}
+use Rattle.std.proofs.Common.{◌≡◌, ℕ, List, [], map, Option, Some, None, Result, Ok, Err, refl, ap, sym, subst, ◌∙◌}
 use Rattle.std.specs.Prelude.{IfErr, IfOk}
 use Rattle.br_model.specs.Answer.{IsRefusal}
 use Rattle.br_model.specs.Volume.{Volume}
@@ -11,16 +11,16 @@ use Rattle.br_pool.specs.Fault as pool
 use Rattle.br_pool.specs.Streaming.{StreamsOver}
 use Rattle.br_pool.specs.declared.fault.PoolFault.{PoolFault}
 use Rattle.br_pool.specs.declared.fault.PoolFault.TheVariants.{Memory}
-use Rattle.br_join.specs.Joining.{Joining, IsMadeFor, begun}
+use Rattle.br_join.specs.Joining.{Joining, IsMadeFor, begun_within}
 use Rattle.br_join.specs.Outcome.{restored}
 use Rattle.br_join.proofs.ReadyLaws.{begun_is_made}
 use Rattle.br_join.proofs.TakingLaws.{taken_together}
 use Rattle.br_engine.specs.Restoring.{Told, AllStand, Outcomes, RestoredOver, restored_files, set_of_each}
 
 -- a new joiner is made for its pieces
-pub fresh_is_made : (shown pieces : List Piece) (names : Option Names) (j : Joining) → shown ≡ pieces → j ≡ begun pieces names → IsMadeFor shown j.pieces
-fresh_is_made shown pieces names j same is =
-    subst (λ (k : Joining). IsMadeFor shown k.pieces) (sym is) (subst (λ (ps : List Piece). IsMadeFor shown (begun ps names).pieces) same (begun_is_made shown names))
+pub fresh_is_made : (bound : Option ℕ) (shown pieces : List Piece) (names : Option Names) (j : Joining) → shown ≡ pieces → j ≡ begun_within bound pieces names → IsMadeFor shown j.pieces
+fresh_is_made bound shown pieces names j same is =
+    subst (λ (k : Joining). IsMadeFor shown k.pieces) (sym is) (subst (λ (ps : List Piece). IsMadeFor shown (begun_within bound ps names).pieces) same (begun_is_made shown names))
 
 -- ---- a joiner of what all drives found
 

@@ -21,12 +21,13 @@ use std::thread::Threads;
 /// The number of batches of hits that may wait between the drives and the joiner.
 const ROOM: usize = 64;
 
-/// Makes the files from what a joiner took of all pieces.
+/// Makes the files from what a joiner took of all pieces, if it holds all data.
 pub(crate) fn files_of(
     rt: &(impl Threads + Sync),
     joiner: &mut Joiner,
 ) -> Result<Vec<(FileKey, Outcome)>, PoolFault>
-    requires { is_ready joiner.old ≡ true }
+    requires ready { is_ready joiner.old ≡ true }
+    requires held { joiner.old.room.holds_all ≡ true }
     ensures files { IfOk result (λ os. map restored os.items ≡ files joiner.old.hits (option_map planned_in joiner.old.names)) }
     ensures memory { IfErr result (λ fault. fault ≡ Memory) }
 {

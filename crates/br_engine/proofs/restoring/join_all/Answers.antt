@@ -14,7 +14,7 @@ returns-in_default-with_room-clause-places g c = all_kept g.D.Drive.shows g.D.Dr
 
 pub run_pool_streaming-requires-clause-made : goal.run_pool_streaming-requires-clause-made
 run_pool_streaming-requires-clause-made g c = λ κs lives.
-    fresh_is_made c.deref-2.result.now c.deref.result.now c.args.names c.in-Ok-with_room.joiner (c.deref-2.ensures.value ∙ sym c.deref.ensures.value) c.in-Ok-with_room.ensures
+    fresh_is_made _ c.deref-2.result.now c.deref.result.now c.args.names c.in-Ok-with_room.joiner (c.deref-2.ensures.value ∙ sym c.deref.ensures.value) c.in-Ok-with_room.ensures
 
 pub returns-in-Ok-run_pool_streaming-clause-names : goal.returns-in-Ok-run_pool_streaming-clause-names
 returns-in-Ok-run_pool_streaming-clause-names g c = c.in-Ok-run_pool_streaming.ensures.names ∙ ap (λ (j : Joining). j.names) c.in-Ok-with_room.ensures
