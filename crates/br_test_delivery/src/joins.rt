@@ -98,10 +98,13 @@ fn push_file(case: &mut Case, key: FileKey, outcome: &Outcome) {
     case.text(" ");
 }
 
-/// Prints the files that a joiner makes, if it is ready.
+/// Prints the files that a joiner makes, if it is ready, or `let_go` if it does not hold all data.
 fn push_files(case: &mut Case, threads: &(impl Threads + Sync), joiner: &mut Joiner) {
     if !joiner.ready() {
         return case.fail("a piece is open");
+    }
+    if !joiner.holds_all() {
+        return case.text("let_go ");
     }
     match joiner.finish(threads) {
         Ok(outcomes) => {

@@ -56,7 +56,7 @@ pub(crate) fn push_manifest(case: &mut Case, shelf: &Shelf, outcomes: &[(FileKey
     }
 }
 
-/// Prints the manifest of the joiner's files, if all its pieces are closed.
+/// Prints the manifest of the joiner's files, if all its pieces are closed. It has room for all data.
 fn push_joined(
     case: &mut Case,
     threads: &(impl Threads + Sync),
@@ -65,6 +65,9 @@ fn push_joined(
 ) {
     if !joiner.ready() {
         return;
+    }
+    if !joiner.holds_all() {
+        return case.fail("data were let go");
     }
     match joiner.finish(threads) {
         Ok(outcomes) => push_manifest(case, shelf, &outcomes),
