@@ -289,9 +289,8 @@ NOT_MIGRATED = [
     ("a row that points nowhere", "DELETE FROM Filename WHERE FilenameId = 1;", 45),
     ("no files", "DROP TABLE File;", 45),
     ("neither files nor names", "DROP TABLE File; DROP TABLE Filename;", 45),
-    ("another table", "CREATE TABLE Extra(Id INTEGER PRIMARY KEY);", 45),
+    ("a table that points to jobs", "CREATE TABLE Extra(JobId INTEGER REFERENCES Job(JobId));", 45),
     ("an index", "CREATE INDEX FilesOfJobs ON File(JobId);", 45),
-    ("a view", "CREATE VIEW Names AS SELECT Name FROM Filename;", 45),
 ]
 
 # Changes after which a migration leaves the same jobs.
@@ -299,6 +298,10 @@ MIGRATED = [
     ("a row that moves to the end", "UPDATE File SET FileId = 77 WHERE FileId = 6;"),
     ("a name of no file", "INSERT INTO Filename VALUES (7, x'ff');"),
     ("a version that is a text", "UPDATE Version SET VersionId = '1';"),
+    ("another table", "CREATE TABLE Extra(Id INTEGER PRIMARY KEY);"),
+    ("statistics", "ANALYZE;"),
+    ("a view", "CREATE VIEW Names AS SELECT Name FROM Filename;"),
+    ("an index of another table", "CREATE INDEX TypesOfMedia ON Media(MediaType);"),
 ]
 
 

@@ -6,8 +6,9 @@
 Each catalogue is that of catalogues/order.sql with something added to it, or made in another way. Those that are taken give the same
 restores. `serve` commits a job to each: sqlite3 then finds the catalogue sound, with what was added to it as it was, and the job is
 restored. A column that was added to a table of the catalogue has its default, or NULL, in the new row; if that may not be, the job is
-refused with 45 and nothing changes. Catalogues that are not taken are refused with 45 by `console`, `serve` and `migrate`, and their
-files stay as they are. The status is 1 if something is not as expected.
+refused with 45 and nothing changes. Catalogues that are not taken are refused by `console`, `serve` and `migrate`, and their files
+stay as they are. Of version 1 all are refused with 48 by `console` and `serve`, whatever is in them, and `migrate` takes some of them.
+The status is 1 if something is not as expected.
 """
 
 import argparse
@@ -65,14 +66,28 @@ REFUSED = {
     "a row that points to no job": "CREATE TABLE Notes(JobId INTEGER REFERENCES Job(JobId)); INSERT INTO Notes VALUES (99);",
     "a virtual table": "CREATE VIRTUAL TABLE Words USING fts5(Word);",
 }
-# What somebody added to a catalogue of version 1, and how it is removed again.
+# Those of them that are not read at all, or have no table Version: `migrate` refuses them with 45, and the others with 47.
+UNREAD = {
+    "a column that hides the numbers of rows",
+    "a column with a default",
+    "auto_vacuum",
+    "auto_vacuum in steps",
+    "a trigger on a view",
+    "a view that numbers rows",
+    "a default for rows that were there",
+    "a row that points to no job",
+    "a virtual table",
+    "texts of two bytes a letter",
+}
+# What somebody added to a catalogue of version 1 that `migrate` does not take, and how it is removed again.
 OLD_ADDITIONS = {
     "an index": ("CREATE INDEX FilesOfJobs ON File(JobId);", "DROP INDEX FilesOfJobs;"),
-    "statistics": ("ANALYZE;", "DROP TABLE sqlite_stat1;"),
-    "a view": ("CREATE VIEW Names AS SELECT Name FROM Filename;", "DROP VIEW Names;"),
-    "a table": ("CREATE TABLE Notes(JobId INTEGER, Note TEXT);", "DROP TABLE Notes;"),
+    "a table that points to jobs": ("CREATE TABLE Notes(JobId INTEGER REFERENCES Job(JobId));", "DROP TABLE Notes;"),
     "a column": ("ALTER TABLE Job ADD COLUMN Note TEXT;", "ALTER TABLE Job DROP COLUMN Note;"),
 }
+# The tables, views and indexes that somebody made.
+OWN_OBJECTS = f"""SELECT type, name, sql FROM sqlite_schema WHERE type = 'view' OR type = 'index' AND sql IS NOT NULL
+OR type = 'table' AND name NOT IN ('Filename', {", ".join(f"'{it}'" for it in TABLES)}) ORDER BY name;"""
 # The statements that change version 1 to version 2 with sqlite3 alone.
 BY_HAND = """CREATE TABLE NewFile(FileId INTEGER PRIMARY KEY, FileIndex INTEGER NOT NULL, JobId INTEGER NOT NULL REFERENCES Job(JobId),
   PathId INTEGER NOT NULL REFERENCES Path(PathId), Filename BLOB NOT NULL, LStat TEXT NOT NULL, MD5 TEXT NOT NULL);
@@ -98,9 +113,9 @@ total 1 0 0
 """
 
 
-def tables_and_rows():
-    """Returns the statements of order.sql that make its tables, and the text of its rows."""
-    tables, rows = Path(ORDER_SQL).read_text().split("INSERT", 1)
+def tables_and_rows(sql=ORDER_SQL):
+    """Returns the statements of a text that make its tables, and the text of its rows."""
+    tables, rows = Path(sql).read_text().split("INSERT", 1)
     return tables.split(";")[:-1], ";INSERT" + rows
 
 
@@ -161,6 +176,24 @@ def taken():
     return texts
 
 
+def old_taken():
+    """Returns the texts of the catalogues of version 1 that `migrate` takes."""
+    text, (tables, rows) = Path(VERSION_1_SQL).read_text(), tables_and_rows(VERSION_1_SQL)
+    index = "CREATE INDEX TypesOfMedia ON Media(MediaType)"
+    return {
+        "its tables the other way round": ";".join(reversed(tables)) + rows,
+        "its first table last": ";".join([*tables[1:], tables[0]]) + rows,
+        "an index between the tables": ";".join([*tables[:4], index, *tables[4:]]) + rows,
+        "an index between the tables, after a VACUUM": ";".join([*tables[:4], index, *tables[4:]]) + rows + "VACUUM;",
+        "an index": text + index + ";",
+        "a table that is gone": "CREATE TABLE Notes(Note TEXT UNIQUE);" + text + "DROP TABLE Notes;",
+        "a view": text + "CREATE VIEW Names AS SELECT Name FROM Filename;",
+        "statistics": text + "ANALYZE;",
+        "a table": text + "CREATE TABLE Notes(Note TEXT UNIQUE); INSERT INTO Notes VALUES ('x');",
+        "a table before its own": "CREATE TABLE Notes(Note TEXT UNIQUE); INSERT INTO Notes VALUES ('x');" + text,
+    }
+
+
 def refused():
     """Returns the texts of the catalogues that are refused."""
     text = Path(ORDER_SQL).read_text()
@@ -213,13 +246,18 @@ def takes(checks, folder, name, text):
     checks.check("and it is restored", checks.console(place.db, lines=lines, volumes=place.volumes), (0, JOB_PRINTED, ""))
 
 
-def refuses(checks, folder, name, text):
-    """Gives a refused catalogue to all commands that take one."""
+def is_not_opened(checks, name, place, number):
+    """Gives a catalogue to the commands that open it, which refuse it with a number."""
+    checks.check(f"{name}: console", checks.console(place.db), (1, "", f"refused {number}\n"))
+    checks.check("serve", served(checks.program, place.db, place.volumes, JOB), (1, b"", f"refused {number}\n".encode()))
+
+
+def refuses(checks, folder, name, text, opened, migrated):
+    """Gives a refused catalogue to all commands that take one, with the numbers of the refusals."""
     place = Place(folder, text)
     data = Path(place.db).read_bytes()
-    checks.check(f"{name}: console", checks.console(place.db), (1, "", "refused 45\n"))
-    checks.check("serve", served(checks.program, place.db, place.volumes, JOB), (1, b"", b"refused 45\n"))
-    checks.check("migrate", checks.migrate(place.db), (1, "", "refused 45\n"))
+    is_not_opened(checks, name, place, opened)
+    checks.check("migrate", checks.migrate(place.db), (1, "", f"refused {migrated}\n"))
     checks.check("and it stays as it was", (Path(place.db).read_bytes() == data, os.listdir(place.volumes)), (True, []))
 
 
@@ -227,11 +265,23 @@ def takes_old(checks, folder, name, added, dropped):
     """Gives a catalogue of version 1 with an addition to all commands that take one, and migrates
     it after the addition is removed."""
     text = Path(VERSION_1_SQL).read_text()
-    refuses(checks, folder, f"version 1 with {name}", text + added)
+    refuses(checks, folder, f"version 1 with {name}", text + added, 48, 45)
     place = Place(folder, text + added + dropped)
     checks.check(f"version 1 without {name} again", checks.migrate(place.db), (0, "migrated 3\n", ""))
     before, printed = list(answers().items())[-1]
     checks.check("is restored", checks.console(place.db, before=before), (0, printed, ""))
+
+
+def migrates_old(checks, folder, name, text):
+    """Migrates a catalogue of version 1 in which something is in another place, or was added."""
+    place = Place(folder, text)
+    is_not_opened(checks, f"version 1, {name}", place, 48)
+    own = sqlite3(place.db, OWN_OBJECTS)
+    checks.check("it is migrated", checks.migrate(place.db), (0, "migrated 3\n", ""))
+    checks.check("and sqlite3 finds it", sqlite3(place.db, "PRAGMA integrity_check; PRAGMA foreign_key_check; SELECT * FROM Version;"), "ok\n2\n")
+    checks.check("beside what was there", sqlite3(place.db, OWN_OBJECTS), own)
+    for before, printed in answers().items():
+        checks.check(f"and restored, before {before}", checks.console(place.db, before=before), (0, printed, ""))
 
 
 def fills(checks, folder, name, text, query, shown):
@@ -271,9 +321,11 @@ def main():
         for name, text in taken().items():
             takes(checks, folder, name, text)
         for name, text in refused().items():
-            refuses(checks, folder, name, text)
+            refuses(checks, folder, name, text, 45, 45 if name in UNREAD else 47)
         for name, (added, dropped) in OLD_ADDITIONS.items():
             takes_old(checks, folder, name, added, dropped)
+        for name, text in old_taken().items():
+            migrates_old(checks, folder, name, text)
         for name, (text, query, shown) in COLUMNS.items():
             fills(checks, folder, name, text, query, shown)
         cannot_insert(checks, folder)

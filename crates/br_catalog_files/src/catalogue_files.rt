@@ -40,17 +40,27 @@ fn catalogue_fault(fault: StoreFault) -> CatalogueFault
     }
 }
 
+/// Opens the catalogue in a database.
+fn opened<S: Alter + Drop>(alloc: Global, conn: Connection<S>) -> Result<Store<S>, StoreFault>
+    requires { IsJustOpened S.Store conn }
+{
+    match Store::open(alloc, conn) {
+        Ok(store) => Ok(store),
+        Err((fault, _)) => Err(fault),
+    }
+}
+
 /// Opens the catalogue in a file, or makes one without jobs in a file that is empty or not there.
 fn open(rt: &HostRuntime, db: &str) -> Result<Store<FileStore<File>>, StoreFault> {
     let conn = open_file(rt, db)?;
-    Store::open(rt.alloc(), conn)
+    opened(rt.alloc(), conn)
 }
 
 /// Loads the jobs of a catalogue.
 fn load_from<S: Alter + Drop>(alloc: Global, conn: Connection<S>) -> Result<History, StoreFault>
     requires { IsJustOpened S.Store conn }
 {
-    Store::open(alloc, conn)?.load_history()
+    opened(alloc, conn)?.load_history()
 }
 
 /// Loads the jobs in the file of a catalogue. The file is only read.

@@ -4,10 +4,10 @@ use Rattle.sqlite.specs.declared.types.Value.TheVariants.{Int}
 use Rattle.sqlite.specs.Order.{Row}
 use Rattle.br_model.specs.Answer.{Answers}
 use Rattle.br_model.specs.Job.{JobRows}
-use Rattle.br_catalog_rows.specs.Fault.{cause}
+use Rattle.br_catalog_rows.specs.Fault.{rows_cause}
 use Rattle.br_catalog_rows.specs.Load.{check_first, read_history, read_loaded}
 use Rattle.br_catalog_rows.specs.Rows.{Rows}
-use Rattle.br_catalog_rows.specs.declared.fault.StoreFault.{StoreFault}
+use Rattle.br_catalog_rows.specs.declared.fault.RowsFault.{RowsFault}
 
 -- rows with version 2 and no file
 abbrev bare : List Row → List Row → Rows
@@ -18,7 +18,7 @@ unfolding read_history check_first
 first_is jobs spans = refl
 
 -- a history is made of rows with version 2 and no file
-pub loaded_of : (result : Result (List JobRows) StoreFault) (rows : Rows) → rows.versions ≡ (Int (pos 2) ∷ []) ∷ [] → rows.files ≡ [] → Answers (λ h. h) cause result (read_history rows)
+pub loaded_of : (result : Result (List JobRows) RowsFault) (rows : Rows) → rows.versions ≡ (Int (pos 2) ∷ []) ∷ [] → rows.files ≡ [] → Answers (λ h. h) rows_cause result (read_history rows)
     → IfOk result (λ h. read_loaded rows.jobs rows.spans [] ≡ Ok h)
 loaded_of (Err e) rows version none a = tt
 loaded_of (Ok h) rows version none a =

@@ -7,10 +7,9 @@ use Rattle.sqlite.specs.Tree.{Trees}
 use Rattle.sqlite_disk.specs.Disk.{MoreFaults}
 use Rattle.sqlite_trees.specs.View.{View, IsClean, IsQuiet, Commits, IsRolledBack, doubt}
 use Rattle.sqlite_trees.specs.declared.store.Store.{Ghosts}
-use Rattle.br_catalog_rows.specs.OldTables.{old_schema}
-use Rattle.br_catalog_migrate.specs.Moved.{HasMigrated, IsKept, IsMadeOf, IsMoved, IsMovedFrom, IsSame, KeepsJobs, MayMove, Migrates, Survives, database}
+use Rattle.br_catalog_migrate.specs.Claims.{CountsJobs}
+use Rattle.br_catalog_migrate.specs.Moved.{HasMigrated, IsKept, IsMadeOf, IsMoved, IsMovedFrom, IsSame, IsWhole, MayMove, Migrates, Survives, database}
 use Rattle.br_catalog_migrate.specs.Old.{HasOld}
-use Rattle.br_catalog_migrate.specs.OldRead.{AreSorted}
 use Rattle.br_catalog_migrate.specs.MigrationSteps.{CommitsNothing, KeepsLast}
 use Rattle.br_catalog_migrate.proofs.MigratedLaws.{is_migrated, jobs_after, jobs_before}
 
@@ -29,12 +28,8 @@ kept_of v0 v1 v2 n fresh up moved done =
         clean = trees ∙ sym (ap (λ (v : View). v.committed) done.is);
         unmarked = ap (λ (v : View). v.marks) done.is;
       };
-      id = moved.id;
-      version_was = moved.version_was;
-      sorted = moved.sorted;
-      moved = subst (IsMovedFrom moved.id v0.trees) (sym trees) moved.written.moved;
-      all = moved.all;
-      loaded = moved.loaded;
+      was = moved.was;
+      moved = subst (IsMovedFrom moved.was.schema moved.was.layout moved.was.id v0.trees) (sym trees) moved.written.moved;
       many = moved.many;
     }
 
@@ -52,28 +47,32 @@ nothing_moved p = record {
 }
 
 pub made_of : (v0 v1 : View) (n : ℕ) (db : Trees) → IsMoved v0 v1 n → db ≡ v1.trees → IsMadeOf v0.trees db
-made_of v0 v1 n db moved same = (moved.sorted, (moved.id, subst (IsMovedFrom moved.id v0.trees) (sym same) moved.written.moved))
+made_of v0 v1 n db moved same = (moved.was, subst (IsMovedFrom moved.was.schema moved.was.layout moved.was.id v0.trees) (sym same) moved.written.moved)
 
 -- ---- as a caller sees it
 
 -- a sound database of version 1 whose rows ascend
-was_old : (old : Trees) → AreSorted old → IsDatabase (database old_schema old) → HasOld (database old_schema old)
-was_old old s sound = record {
-  schema = refl;
-  sound = sound;
-  rising = (s.versions, (s.clients, (s.filesets, (s.media, (s.paths, (s.names, (s.jobs, (s.spans, (s.files, tt)))))))));
-}
+was_old : (old : Trees) (was : IsWhole old) → IsDatabase (database was.schema old) → HasOld was.layout (database was.schema old)
+was_old old was sound = record { is = was.is.is; sound = sound; sorted = was.sorted }
 
-migrates_if : (id : ℤ) (old new : Trees) → AreSorted old → IsMovedFrom id old new → Migrates old new
-migrates_if id old new sorted moved sound = is_migrated id old new (was_old old sorted sound) moved
+migrates_if : (old new : Trees) (was : IsWhole old) → IsMovedFrom was.schema was.layout was.id old new → Migrates old new
+migrates_if old new was moved =
+    (was.schema, was.layout, was.is, λ sound. (moved.after, is_migrated was.schema was.layout old (was_old old was sound) was.id new moved))
 
 pub has_migrated : (v0 v2 : View) (n : ℕ) → IsKept v0 v2 n → HasMigrated v0 v2
-has_migrated v0 v2 n k = record { is_open = k.is_open; settled = k.fresh.clean; catalogue = migrates_if k.id v0.trees v2.trees k.sorted k.moved }
+has_migrated v0 v2 n k = record { is_open = k.is_open; settled = k.fresh.clean; catalogue = migrates_if v0.trees v2.trees k.was k.moved }
 
-pub keeps_jobs : (v0 v2 : View) (n : ℕ) → IsKept v0 v2 n → IsDatabase (database old_schema v0.trees) → KeepsJobs v0.trees v2.trees n
-keeps_jobs v0 v2 n k sound =
-    let has = was_old v0.trees k.sorted sound in
-    (k.all, jobs_before k.id v0.trees k.all has k.version_was k.loaded, jobs_after v0.trees v2.trees k.all has (is_migrated k.id v0.trees v2.trees has k.moved) k.loaded, k.many)
+pub counts_jobs : (v0 v2 : View) (n : ℕ) → IsKept v0 v2 n → CountsJobs v0.trees v2.trees n
+counts_jobs v0 v2 n k =
+    let was = k.was in (
+      was.schema,
+      was.layout,
+      was.is,
+      λ sound.
+          let has = was_old v0.trees was sound in
+          let is = is_migrated was.schema was.layout v0.trees has was.id v2.trees k.moved in
+          (was.all, jobs_before was.schema was.layout v0.trees was.id was.all has was.version_was was.loaded, jobs_after was.schema k.moved.after was.layout v0.trees v2.trees was.all has is was.loaded, k.many),
+    )
 
 -- after a rollback all is as it was
 pub same_again : (v0 v1 v2 : View) → IsFresh v0 → KeepsLast v0 v1 → IsRolledBack v1 v2 → IsClean v2 → IsTrue v2.is_open → IsSame v0 v2
@@ -103,7 +102,7 @@ survives_of p = record {
   closes = p.closes;
   crash = λ clean db may. elim (p.crash clean db may) [
     | inl before ↦ inl before
-    | inr made ↦ inr (migrates_if made.1.0 _ db made.0 made.1.1)
+    | inr made ↦ inr (migrates_if _ db made.0 made.1)
   ];
 }
 

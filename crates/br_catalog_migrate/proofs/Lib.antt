@@ -14,3 +14,5 @@ pub mod StepLaws
 pub mod TakenLaws
 pub mod WholeLaws
 pub mod RawFolds
+pub mod TreeLaws
+pub mod CatalogLaws

@@ -1,32 +1,37 @@
 -- The trees of version 2 are a catalogue with the rows of version 1.
-use Rattle.std.proofs.Common.{◌≡◌, ℕ, ℤ, pos, List, [], ◌∷◌, map, codes, true, IsTrue, Ok, refl, sym, ap, ap₂, subst, ◌∙◌}
+use Rattle.std.proofs.Common.{◌≡◌, ◌≢◌, ℕ, ℤ, pos, List, [], ◌∷◌, map, codes, true, IsTrue, Ok, refl, sym, ap, ap₂, subst, ◌∙◌}
 use Rattle.std.specs.List.{AllByRecursion}
 use Rattle.sqlite.specs.declared.types.Value.TheVariants.{Int}
 use Rattle.sqlite.specs.Order.{Row, column}
+use Rattle.sqlite.specs.Schema.{Schema}
 use Rattle.sqlite.specs.Table.{Table}
 use Rattle.sqlite.specs.Tree.{Trees}
 use Rattle.sqlite.specs.View.{IsShaped, is_int}
 use Rattle.sqlite.specs.Effect.{IsDatabase}
 use Rattle.sqlite_trees.specs.declared.store.Shape.TheVariants.{Table as Shaped}
-use Rattle.sqlite_schema.specs.Rules.{Obeys}
 use Rattle.br_model.specs.Job.{JobRows}
 use Rattle.br_catalog_rows.specs.Load.{check_first, read_history, read_loaded}
 use Rattle.br_catalog_rows.specs.Rows.{Rows}
-use Rattle.br_catalog_rows.specs.OldTables.{old_schema}
-use Rattle.br_catalog_rows.specs.TreePlaces.{Layout, moved_layout}
+use Rattle.br_catalog_rows.specs.declared.old_schema.OldLayout.{OldLayout}
+use Rattle.br_catalog_rows.specs.OldTables.{keeps_tree, moved_layout}
+use Rattle.br_catalog_rows.specs.TreePlaces.{Layout}
 use Rattle.br_catalog_rows.specs.KnownSchemas.{no_owns}
 use Rattle.br_catalog_rows.specs.Tables.{tables_at}
-use Rattle.br_store.specs.Held.{file_shown, rows_at, rows_in, tree_named}
+use Rattle.br_store.specs.Held.{file_shown, job_shown, rows_at, rows_in, span_shown, tree_named}
 use Rattle.br_store.specs.Made.{is_first}
 use Rattle.br_store.proofs.Layouts.{has_here, layout_is}
+use Rattle.br_store.proofs.Writes.{four}
 use Rattle.br_catalog_migrate.specs.OldFiles.{moved_row, shown_row}
-use Rattle.br_catalog_migrate.specs.Moved.{IsMovedFrom, database, moved_files, trees_of}
+use Rattle.br_catalog_migrate.specs.Moved.{IsMovedFrom, database, moved_files, version_rows}
 use Rattle.br_catalog_migrate.specs.Old.{HasOld, IsMigrated, old_rows_in, read_old, renewed}
-use Rattle.br_catalog_migrate.specs.OldRead.{files_in, jobs_in, spans_in}
-use Rattle.br_catalog_migrate.specs.Sound.{moved_schema}
-use Rattle.br_catalog_migrate.proofs.OldLaws.{moved_stands, old_layout, old_names}
+use Rattle.br_catalog_migrate.specs.OldRead.{FormJobs}
+use Rattle.br_catalog_migrate.specs.Sound.{AreMovedRows}
+use Rattle.sqlite_trees.specs.Objects.{catalog_tree}
+use Rattle.br_catalog_migrate.proofs.CatalogLaws.{shared}
+use Rattle.br_catalog_migrate.proofs.OldLaws.{old_layout, old_names}
 use Rattle.br_catalog_migrate.proofs.RenewLaws.{all_moved, table_moved}
 use Rattle.br_catalog_migrate.proofs.SoundLaws.{stays_sound}
+use Rattle.br_catalog_migrate.proofs.TreeLaws.{moved_file, moved_other, moved_version, spared}
 
 -- the rows of files of version 2 show what those of version 1 showed
 same_shown : (paths names rows : List Row) → map (file_shown paths) (map (moved_row names) rows) ≡ map (shown_row paths names) rows
@@ -37,54 +42,68 @@ shaped_moved : (names rows : List Row) → IsShaped Shaped rows → IsShaped Sha
 shaped_moved names rows up = (table_moved names rows up.0, all_moved (λ v. IsTrue (is_int v)) names rows up.1)
 
 -- the rows of version 1, by the trees in which its tables are
-old_rows : (old : Trees) → HasOld (database old_schema old)
-    → old_rows_in old ≡ record (rows_at moved_layout old) { files = map (shown_row (old 7) (old 9)) (old 15) }
-old_rows old has =
-    let layout = old_layout (database old_schema old) has in
-    let names : tree_named old (codes "Filename") ≡ 9 = old_names (database old_schema old) has in
-    ap₂ (λ (l : Layout) (n : ℕ). record (rows_at l old) { files = map (shown_row (old l.path) (old n)) (old l.file) }) layout names
+abbrev loaded_rows : OldLayout → Trees → Rows
+loaded_rows l old = record (rows_at (moved_layout l) old) { files = map (shown_row (old l.path) (old l.filename)) (old l.file) }
 
-module _ (id : ℤ) (old new : Trees) (has : HasOld (database old_schema old)) (moved : IsMovedFrom id old new) where
-  made : Trees
-  made = trees_of id old moved.a moved.b moved.c moved.d
+module _ (schema : Schema) (l : OldLayout) (old : Trees) (has : HasOld l (database schema old)) where
+  old_rows : old_rows_in old ≡ loaded_rows l old
+  old_rows =
+      let layout = old_layout l (database schema old) has in
+      let names : tree_named old (codes "Filename") ≡ l.filename = old_names l (database schema old) has in
+      ap₂ (λ (m : Layout) (n : ℕ). record (rows_at m old) { files = map (shown_row (old m.path) (old n)) (old m.file) }) layout names
 
-  sound_new : IsDatabase (database moved_schema new)
-  sound_new = record {
-    lists = moved.lists;
-    obeys = subst (Obeys moved_schema) (sym moved.is) (stays_sound old moved.a moved.b moved.c moved.d (moved_files old) id has.sound.obeys moved.rows);
-  }
+  module _ (id : ℤ) (new : Trees) (moved : IsMovedFrom schema l id old new) where
+    apart : l.file ≢ l.version
+    apart same = (spared l l.version has.is.apart.version).file (sym same)
 
-  shaped_new : AllByRecursion (λ (t : Table). IsShaped Shaped (new t.tree)) (tables_at moved_layout)
-  shaped_new =
-      let r = has.rising in
-      let all : AllByRecursion (λ (t : Table). IsShaped Shaped (trees_of id old moved.a moved.b moved.c moved.d t.tree)) (tables_at moved_layout) =
-      (((tt, tt), (refl, tt)), (r.1.0, (r.1.1.0, (r.1.1.1.0, (r.1.1.1.1.0, (r.1.1.1.1.1.1.0, (r.1.1.1.1.1.1.1.0, (shaped_moved (old 9) (old 15) r.1.1.1.1.1.1.1.1.0, tt)))))))) in
-      subst (λ (trees : Trees). AllByRecursion (λ (t : Table). IsShaped Shaped (trees t.tree)) (tables_at moved_layout)) (sym moved.is) all
+    version_is : new l.version ≡ version_rows id 2
+    version_is = ap (λ (t : Trees). t l.version) moved.is ∙ moved_version l old moved.a moved.b moved.c moved.d (moved_files l old) (version_rows id 2)
 
-  rows_new : rows_at moved_layout new ≡ renewed (record (rows_at moved_layout old) { files = map (shown_row (old 7) (old 9)) (old 15) })
-  rows_new =
-      ap (rows_at moved_layout) moved.is
-      ∙ ap (λ (l : List Row). record (rows_at moved_layout (trees_of id old moved.a moved.b moved.c moved.d)) { files = l }) (same_shown (old 7) (old 9) (old 15))
+    files_are : new l.file ≡ moved_files l old
+    files_are = ap (λ (t : Trees). t l.file) moved.is ∙ moved_file l old moved.a moved.b moved.c moved.d (moved_files l old) (version_rows id 2) apart
 
-  -- it is a catalogue with the rows of the catalogue of version 1
-  pub is_migrated : IsMigrated (database old_schema old) (database moved_schema new)
-  is_migrated =
-      let db = database moved_schema new in
-      let now = layout_is moved_layout no_owns db moved_stands sound_new in
-      record {
-        tables = record {
-          own = no_owns;
-          schema = has_here moved_layout no_owns db moved_stands sound_new;
-          sound = sound_new;
-          shaped = subst (λ (m : Layout). AllByRecursion (λ (t : Table). IsShaped Shaped (new t.tree)) (tables_at m)) (sym now) shaped_new;
-        };
-        rows = ap (λ (m : Layout). rows_at m new) now ∙ rows_new ∙ ap renewed (sym (old_rows old has));
-      }
+    same : (t : ℕ) → keeps_tree l t ≡ true → new t ≡ old t
+    same t keeps = ap (λ (trees : Trees). trees t) moved.is ∙ moved_other l old moved.a moved.b moved.c moved.d (moved_files l old) (version_rows id 2) t keeps
+
+    sound_new : IsDatabase (database moved.after new)
+    sound_new = record {
+      lists = moved.lists;
+      obeys = stays_sound schema moved.after l old new id has.is has.sound.obeys moved.moved (shared (old catalog_tree) (new catalog_tree) schema moved.after l.file moved.shares has.sound.lists.listed moved.lists.listed) version_is same (subst (AreMovedRows (old l.file)) (sym files_are) moved.rows);
+    }
+
+    shaped_new : AllByRecursion (λ (t : Table). IsShaped Shaped (new t.tree)) (tables_at (moved_layout l))
+    shaped_new =
+        let s = has.sorted in
+        let a = has.is.apart in
+        let at = λ (t : ℕ) (keeps : keeps_tree l t ≡ true) (up : IsShaped Shaped (old t)). subst (IsShaped Shaped) (sym (same t keeps)) up in (
+          subst (IsShaped Shaped) (sym version_is) ((tt, tt), (refl, tt)),
+          (at l.client a.client s.clients, (at l.fileset a.fileset s.filesets, (at l.media a.media s.media, (at l.path a.path s.paths, (at l.job a.job s.jobs, (at l.job_media a.job_media s.spans, (subst (IsShaped Shaped) (sym files_are) (shaped_moved (old l.filename) (old l.file) s.files), tt))))))),
+        )
+
+    rows_new : rows_at (moved_layout l) new ≡ renewed (loaded_rows l old)
+    rows_new =
+        let a = has.is.apart in
+        four (rows_at (moved_layout l) new) (renewed (loaded_rows l old)) (ap (map (λ (r : Row). column r 1 ∷ [])) version_is)
+        (ap₂ (λ c f. map (job_shown c f) (new l.job)) (same l.client a.client) (same l.fileset a.fileset) ∙ ap (map (job_shown (old l.client) (old l.fileset))) (same l.job a.job))
+        (ap₂ (λ m rows. map (span_shown m) rows) (same l.media a.media) (same l.job_media a.job_media))
+        (ap₂ (λ p rows. map (file_shown p) rows) (same l.path a.path) files_are ∙ same_shown (old l.path) (old l.filename) (old l.file))
+
+    -- it is a catalogue with the rows of the catalogue of version 1
+    pub is_migrated : IsMigrated (database schema old) (database moved.after new)
+    is_migrated =
+        let db = database moved.after new in
+        let now = layout_is (moved_layout l) no_owns db moved.moved.has sound_new in
+        record {
+          tables = record {
+            own = no_owns;
+            schema = has_here (moved_layout l) no_owns db moved.moved.has sound_new;
+            sound = sound_new;
+            shaped = subst (λ (m : Layout). AllByRecursion (λ (t : Table). IsShaped Shaped (new t.tree)) (tables_at m)) (sym now) shaped_new;
+          };
+          rows = ap (λ (m : Layout). rows_at m new) now ∙ rows_new ∙ ap renewed (sym old_rows);
+        }
 
 -- ---- the history
-
-abbrev loaded_rows : Trees → Rows
-loaded_rows old = record (rows_at moved_layout old) { files = map (shown_row (old 7) (old 9)) (old 15) }
 
 read_first : (rows : Rows) (jobs : List JobRows) → is_first rows.versions ≡ true → read_loaded rows.jobs rows.spans rows.files ≡ Ok jobs → read_old rows ≡ Ok jobs
 read_first rows jobs first is = rw first is
@@ -94,12 +113,12 @@ unfolding read_history check_first
 read_second rows = refl
 
 -- the rows of version 1 formed these jobs
-pub jobs_before : (id : ℤ) (old : Trees) (jobs : List JobRows) → HasOld (database old_schema old) → old 0 ≡ (Int id ∷ Int (pos 1) ∷ []) ∷ [] → read_loaded (jobs_in old) (spans_in old) (files_in old) ≡ Ok jobs
+pub jobs_before : (schema : Schema) (l : OldLayout) (old : Trees) (id : ℤ) (jobs : List JobRows) → HasOld l (database schema old) → old l.version ≡ version_rows id 1 → FormJobs l old jobs
     → read_old (old_rows_in old) ≡ Ok jobs
-jobs_before id old jobs has version loaded =
-    ap read_old (old_rows old has) ∙ read_first (loaded_rows old) jobs (ap (λ (rows : List Row). is_first (map (λ (r : Row). column r 1 ∷ []) rows)) version) loaded
+jobs_before schema l old id jobs has version loaded =
+    ap read_old (old_rows schema l old has) ∙ read_first (loaded_rows l old) jobs (ap (λ (rows : List Row). is_first (map (λ (r : Row). column r 1 ∷ []) rows)) version) loaded
 
 -- and so do the rows of version 2
-pub jobs_after : (old new : Trees) (jobs : List JobRows) → HasOld (database old_schema old) → IsMigrated (database old_schema old) (database moved_schema new) → read_loaded (jobs_in old) (spans_in old) (files_in old) ≡ Ok jobs
+pub jobs_after : (schema after : Schema) (l : OldLayout) (old new : Trees) (jobs : List JobRows) → HasOld l (database schema old) → IsMigrated (database schema old) (database after new) → FormJobs l old jobs
     → read_history (rows_in new) ≡ Ok jobs
-jobs_after old new jobs has is loaded = ap read_history (is.rows ∙ ap renewed (old_rows old has)) ∙ read_second (loaded_rows old) ∙ loaded
+jobs_after schema after l old new jobs has is loaded = ap read_history (is.rows ∙ ap renewed (old_rows schema l old has)) ∙ read_second (loaded_rows l old) ∙ loaded

@@ -1,38 +1,32 @@
--- Where the tables of version 1, and those that are made of them, are.
-use Rattle.std.proofs.Common.{◌≡◌, filter, codes, refl, subst}
-use Rattle.std.specs.List.{AllZip}
+-- Where the tables of version 1 are.
+use Rattle.std.proofs.Common.{◌≡◌, ℕ, true, List, codes, refl, ap₂, ◌∙◌}
+use Rattle.sqlite.specs.Table.{Table}
 use Rattle.sqlite.specs.Effect.{Database}
 use Rattle.sqlite_schema.specs.Names.{same_name}
-use Rattle.sqlite_catalog.specs.Listing.{IsTableRow, is_table_row}
-use Rattle.sqlite_trees.specs.Objects.{catalog_tree}
-use Rattle.br_catalog_rows.specs.TreePlaces.{moved_layout}
-use Rattle.br_catalog_rows.specs.OldTables.{old_schema}
-use Rattle.br_catalog_rows.specs.KnownSchemas.{HasAll, no_owns}
+use Rattle.br_catalog_rows.specs.declared.old_schema.OldLayout.{OldLayout}
+use Rattle.br_catalog_rows.specs.KnownSchemas.{Stands}
+use Rattle.br_catalog_rows.specs.OldTables.{moved_layout}
 use Rattle.br_store.specs.Held.{layout_in, tree_named}
-use Rattle.br_store.proofs.Layouts.{layout_from, tree_is}
+use Rattle.br_store.proofs.Layouts.{tree_at, tree_is}
 use Rattle.br_catalog_migrate.specs.Old.{HasOld}
-use Rattle.br_catalog_migrate.specs.Sound.{moved_schema}
 
-old_listed : (db : Database) → HasOld db → AllZip IsTableRow (filter is_table_row (db.trees catalog_tree)) old_schema.tables
-old_listed db has = subst (λ s. AllZip IsTableRow (filter is_table_row (db.trees catalog_tree)) s.tables) has.schema has.sound.lists.listed.tables
+module _ (l : OldLayout) (db : Database) (has : HasOld l db) where
+  -- a table is in the tree that its name leads to
+  named : (t : Table) → Stands db.schema t → same_name t.name t.name ≡ true → tree_named db.trees t.name ≡ t.tree
+  named t stands self = tree_is db.trees db.schema.tables t.name has.sound.lists.listed.tables ∙ tree_at db.schema t stands self
 
--- the tables with the catalogue's names are in the trees that they have in version 2 made of it
-pub old_layout : (db : Database) → HasOld db → layout_in db.trees ≡ moved_layout
-old_layout db has = layout_from db.trees old_schema.tables (old_listed db has)
+  -- the tables with the catalogue's names are in the trees that they have in version 2 made of it
+  pub old_layout : layout_in db.trees ≡ moved_layout l
+  unfolding same_name
+  old_layout =
+      let a = layout_in db.trees in
+      let b = moved_layout l in
+      let tables = has.is.has in
+      ap₂ (λ v c. record a { version = v; client = c }) (named _ tables.version refl) (named _ tables.client refl)
+      ∙ ap₂ (λ f m. record a { version = b.version; client = b.client; fileset = f; media = m }) (named _ tables.fileset refl) (named _ tables.media refl)
+      ∙ ap₂ (λ p j. record a { version = b.version; client = b.client; fileset = b.fileset; media = b.media; path = p; job = j }) (named _ tables.path refl) (named _ tables.job refl)
+      ∙ ap₂ (λ s f. record b { job_media = s; file = f }) (named _ tables.job_media refl) (named _ tables.file refl)
 
-pub old_names : (db : Database) → HasOld db → tree_named db.trees (codes "Filename") ≡ 9
-old_names db has = tree_is db.trees old_schema.tables (codes "Filename") (old_listed db has)
-
--- the schema that is made of that of version 1 has the tables
-unfoldable pub moved_stands : HasAll moved_schema moved_layout no_owns
-unfolding same_name
-moved_stands = record {
-  version = record { place = 0; named = refl; placed = refl; is = refl; stored = refl; numbered = λ e. refl };
-  client = record { place = 1; named = refl; placed = refl; is = refl; stored = refl; numbered = λ e. absurd cc };
-  fileset = record { place = 2; named = refl; placed = refl; is = refl; stored = refl; numbered = λ e. absurd cc };
-  media = record { place = 3; named = refl; placed = refl; is = refl; stored = refl; numbered = λ e. absurd cc };
-  path = record { place = 4; named = refl; placed = refl; is = refl; stored = refl; numbered = λ e. absurd cc };
-  job = record { place = 5; named = refl; placed = refl; is = refl; stored = refl; numbered = λ e. absurd cc };
-  job_media = record { place = 6; named = refl; placed = refl; is = refl; stored = refl; numbered = λ e. absurd cc };
-  file = record { place = 7; named = refl; placed = refl; is = refl; stored = refl; numbered = λ e. absurd cc };
-}
+  pub old_names : tree_named db.trees (codes "Filename") ≡ l.filename
+  unfolding same_name
+  old_names = named _ has.is.has.filename refl

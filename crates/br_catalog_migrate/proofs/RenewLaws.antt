@@ -1,17 +1,19 @@
 -- The tables of version 2 in place of those of version 1.
-use Rattle.std.proofs.Common.{◌≡◌, ◌≢◌, ℕ, zero, suc, ◌+◌, List, [], ◌∷◌, map, take, slice_get, Some, Less, Ordering, refl, sym, ap, ap₂, subst, ◌∙◌, arith}
+use Rattle.std.proofs.Common.{◌≡◌, ◌≢◌, ℕ, ℤ, not, zero, suc, ◌+◌, List, [], ◌∷◌, map, take, slice_get, Some, Less, Ordering, refl, sym, ap, ap₂, subst, ◌∙◌, arith}
 use Rattle.std.specs.List.{AllByRecursion}
 use Rattle.std.specs.Ordering.{match_ordering}
 use Rattle.sqlite.specs.declared.types.Value.{Value}
 use Rattle.sqlite.specs.Order.{Row, column, value_cmp}
 use Rattle.sqlite_trees.specs.Objects.{SetsObject, catalog_tree}
-use Rattle.sqlite_trees.specs.Tree.{IsTable, Trees, put_row, rowid}
+use Rattle.sqlite_rules.specs.Lists.{Has}
+use Rattle.sqlite_rules.proofs.ListLemmas.{has_filtered}
+use Rattle.sqlite_trees.specs.Tree.{IsTable, Trees, has_rowid, put_row, rowid, with_tree, without_rowid}
 use Rattle.sqlite_trees.specs.View.{View, SetsTree}
 use Rattle.sqlite_trees.specs.declared.store.Shape.{Shape}
 use Rattle.sqlite_exec.proofs.WriteLemmas.{with_itself_view, with_twice}
 use Rattle.br_catalog_migrate.specs.OldFiles.{moved_row}
-use Rattle.br_catalog_migrate.specs.OldTrees.{file_tree}
 use Rattle.br_catalog_migrate.specs.Renewed.{HasFiles, IsAltered, relisted}
+use Rattle.br_catalog_migrate.proofs.TreeLaws.{at_same}
 
 -- ---- the list of objects
 
@@ -31,6 +33,15 @@ pub set_altered : (old new : View) (tree : ℕ) (shape : Shape) (reals : ℕ) (e
 set_altered old new tree shape reals edit sets =
     sets.is ∙ ap₂ (λ (s : ℕ → Shape) (r : ℕ → ℕ). record old { trees = relisted old.trees tree (edit (old.trees catalog_tree)); shape = s; reals = r; cursors = new.cursors })
     (sym (ap (λ (v : View). v.shape) sets.is)) (sym (ap (λ (v : View). v.reals) sets.is))
+
+-- the list of objects after that
+pub objects_now : (old new : View) (tree : ℕ) (shape : Shape) (reals : ℕ) (edit : List Row → List Row) → SetsObject old new tree shape reals edit → new.trees catalog_tree ≡ edit (old.trees catalog_tree)
+objects_now old new tree shape reals edit sets =
+    ap (λ (v : View). v.trees catalog_tree) sets.is ∙ at_same (with_tree old.trees tree []) catalog_tree (edit (old.trees catalog_tree))
+
+-- a row that is left was there before
+pub was_listed : (before objects : List Row) (id : ℤ) (r : Row) → objects ≡ without_rowid id before → Has objects r → Has before r
+was_listed before objects id r same has = (has_filtered (λ r. not (has_rowid id r)) before r (subst (λ (rows : List Row). Has rows r) same has)).0
 
 pub altered_then : (u v w : View) (trees : Trees) (more : Trees → Trees) → IsAltered u v trees → IsAltered v w (more v.trees) → IsAltered u w (more trees)
 altered_then u v w trees more one two =
@@ -61,13 +72,13 @@ table_moved names [] up = tt
 table_moved names (r ∷ rows) up = (all_moved (λ v. value_cmp (rowid r) v ≡ Less) names rows up.0, table_moved names rows up.1)
 
 -- no row is there at first
-pub no_files : (v : View) (rows : List Row) → v.trees file_tree ≡ [] → HasFiles v v (take 0 rows)
-no_files v rows none = record { files = none; is = with_itself_view v v file_tree refl }
+pub no_files : (tree : ℕ) (v : View) (rows : List Row) → v.trees tree ≡ [] → HasFiles tree v v (take 0 rows)
+no_files tree v rows none = record { files = none; is = with_itself_view v v tree refl }
 
-pub next_file : (start now new : View) (names rows : List Row) (at : ℕ) (row : Row) → IsTable rows → slice_get (map (moved_row names) rows) at ≡ Some row → SetsTree now new file_tree (put_row row)
-    → HasFiles start now (take at (map (moved_row names) rows)) → HasFiles start new (take (at + 1) (map (moved_row names) rows))
-next_file start now new names rows at row up has sets so =
-    let twice = with_twice start now new file_tree (put_row row) so.is sets in
+pub next_file : (tree : ℕ) (start now new : View) (names rows : List Row) (at : ℕ) (row : Row) → IsTable rows → slice_get (map (moved_row names) rows) at ≡ Some row → SetsTree now new tree (put_row row)
+    → HasFiles tree start now (take at (map (moved_row names) rows)) → HasFiles tree start new (take (at + 1) (map (moved_row names) rows))
+next_file tree start now new names rows at row up has sets so =
+    let twice = with_twice start now new tree (put_row row) so.is sets in
     let one : suc at ≡ at + 1 = omega arith in
     record {
       files = twice.0 ∙ ap (put_row row) so.files ∙ put_at (map (moved_row names) rows) at row (table_moved names rows up) has ∙ ap (λ (k : ℕ). take k (map (moved_row names) rows)) one;

@@ -4,7 +4,6 @@ pub mod OldFiles
 pub mod Moved
 pub mod OldNames
 pub mod Old
-pub mod OldTrees
 pub mod OldRead
 pub mod Renewed
 pub mod SeenIndexes

@@ -6,7 +6,7 @@ use Rattle.sqlite_trees.specs.declared.store.Store.{Ghosts}
 use Rattle.sqlite_trees.specs.declared.store.Shape.TheVariants as Shape
 use Rattle.sqlite_exec.specs.Calls.{OnlyReads}
 use Rattle.sqlite_exec.specs.Loops.{left_of}
-use Rattle.br_catalog_migrate.specs.OldTrees.{client_tree, file_tree, fileset_tree, job_tree, media_tree, name_tree, path_tree, span_tree, version_tree}
+use Rattle.br_catalog_rows.specs.declared.old_schema.OldLayout.{OldLayout}
 
 -- the claim holds of the store before and after a call if its disk has returned what was written to it
 abbrev pub OnCleanStore : {S : Type 0} → Ghosts S → S → S → (View → View → Type 0) → Type 0
@@ -43,14 +43,14 @@ pub record GoesOn (old new : View) (row : Row) (found : Bool) : Type 0 where
   pub reads : Reads old new
   pub gives : Gives row (left_of old 0) (left_of new 0) found
 
--- the trees of the tables are tables
-pub record AreTables (v : View) : Type 0 where
-  pub version : v.shape version_tree ≡ Shape.Table
-  pub client : v.shape client_tree ≡ Shape.Table
-  pub fileset : v.shape fileset_tree ≡ Shape.Table
-  pub media : v.shape media_tree ≡ Shape.Table
-  pub path : v.shape path_tree ≡ Shape.Table
-  pub name : v.shape name_tree ≡ Shape.Table
-  pub job : v.shape job_tree ≡ Shape.Table
-  pub span : v.shape span_tree ≡ Shape.Table
-  pub file : v.shape file_tree ≡ Shape.Table
+-- the trees of the tables of version 1 are tables
+pub record AreTables (l : OldLayout) (v : View) : Type 0 where
+  pub version : v.shape l.version ≡ Shape.Table
+  pub client : v.shape l.client ≡ Shape.Table
+  pub fileset : v.shape l.fileset ≡ Shape.Table
+  pub media : v.shape l.media ≡ Shape.Table
+  pub path : v.shape l.path ≡ Shape.Table
+  pub name : v.shape l.filename ≡ Shape.Table
+  pub job : v.shape l.job ≡ Shape.Table
+  pub span : v.shape l.job_media ≡ Shape.Table
+  pub file : v.shape l.file ≡ Shape.Table

@@ -13,66 +13,72 @@ use Rattle.sqlite_trees.specs.View.{View, IsClean, doubt}
 use Rattle.sqlite_catalog.specs.Listing.{Lists}
 use Rattle.br_model.specs.Job.{JobRows}
 use Rattle.br_catalog_rows.specs.Fault.{fault_number}
-use Rattle.br_catalog_rows.specs.Load.{read_history, read_loaded}
+use Rattle.br_catalog_rows.specs.Load.{read_history}
 use Rattle.br_catalog_rows.specs.declared.fault.StoreFault.{StoreFault}
-use Rattle.br_catalog_rows.specs.OldTables.{old_schema}
+use Rattle.br_catalog_rows.specs.declared.old_schema.OldLayout.{OldLayout}
+use Rattle.br_catalog_rows.specs.OldSchemas.{IsMovedSchema}
 use Rattle.br_store.specs.Held.{rows_in}
 use Rattle.br_catalog_migrate.specs.OldFiles.{moved_row}
 use Rattle.br_catalog_migrate.specs.Old.{IsMigrated, old_rows_in, read_old}
-use Rattle.br_catalog_migrate.specs.OldTrees.{file_tree, name_tree, version_tree}
-use Rattle.br_catalog_migrate.specs.OldRead.{AreSorted, files_in, jobs_in, spans_in}
-use Rattle.br_catalog_migrate.specs.Renewed.{IsAltered}
-use Rattle.br_catalog_migrate.specs.Sound.{AreMovedRows, moved_schema, moved_trees}
+use Rattle.br_catalog_migrate.specs.OldRead.{AreSorted, FormJobs, IsOldIn}
+use Rattle.br_catalog_migrate.specs.Renewed.{IsAltered, ListsNoOther}
+use Rattle.br_catalog_migrate.specs.Sound.{AreMovedRows, moved_trees}
 
 -- the rows of files of version 2
-abbrev pub moved_files : Trees → List Row
-moved_files trees = map (moved_row (trees name_tree)) (trees file_tree)
+abbrev pub moved_files : OldLayout → Trees → List Row
+moved_files l trees = map (moved_row (trees l.filename)) (trees l.file)
 
--- the trees of version 2 made from those of version 1, with these lists of objects in between
-abbrev pub trees_of : ℤ → Trees → List Row → List Row → List Row → List Row → Trees
-trees_of id trees a b c d = moved_trees trees a b c d (moved_files trees) ((Int id ∷ Int (pos 2) ∷ []) ∷ [])
+-- the row of a version with this number
+abbrev pub version_rows : ℤ → ℕ → List Row
+version_rows id version = (Int id ∷ Int (pos version) ∷ []) ∷ []
 
 -- the trees are those of version 2, and list its tables
-pub record IsMovedFrom (id : ℤ) (old new : Trees) : Type 0 where
+pub record IsMovedFrom (schema : Schema) (l : OldLayout) (id : ℤ) (old new : Trees) : Type 0 where
   pub a : List Row
   pub b : List Row
   pub c : List Row
   pub d : List Row
-  pub is : new ≡ trees_of id old a b c d
-  pub lists : Lists (new catalog_tree) moved_schema
-  pub rows : AreMovedRows (old file_tree) (moved_files old)
+  pub is : new ≡ moved_trees l old a b c d (moved_files l old) (version_rows id 2)
+  pub after : Schema
+  pub lists : Lists (new catalog_tree) after
+  pub shares : ListsNoOther l.file (old catalog_tree) (new catalog_tree)
+  pub moved : IsMovedSchema after schema l
+  pub rows : AreMovedRows (old l.file) (moved_files l old)
 
 -- the catalogue of version 2 was written, and nothing was committed
-pub record IsWritten (id : ℤ) (old new : View) : Type 0 where
+pub record IsWritten (schema : Schema) (l : OldLayout) (id : ℤ) (old new : View) : Type 0 where
   pub sound : old.is_broken ≡ false
-  pub moved : IsMovedFrom id old.trees new.trees
+  pub moved : IsMovedFrom schema l id old.trees new.trees
   pub is : IsAltered old new new.trees
+
+-- a catalogue of version 1 whose rows are those of a history
+pub record IsWhole (trees : Trees) : Type 0 where
+  pub schema : Schema
+  pub layout : OldLayout
+  pub is : IsOldIn schema layout trees
+  pub id : ℤ
+  pub version_was : trees layout.version ≡ version_rows id 1
+  pub sorted : AreSorted layout trees
+  pub all : List JobRows
+  pub loaded : FormJobs layout trees all
 
 -- the rows were those of a history of this number of jobs, and the catalogue of version 2 has them
 pub record IsMoved (old new : View) (n : ℕ) : Type 0 where
-  pub id : ℤ
-  pub version_was : old.trees version_tree ≡ (Int id ∷ Int (pos 1) ∷ []) ∷ []
-  pub sorted : AreSorted old.trees
-  pub written : IsWritten id old new
-  pub all : List JobRows
-  pub loaded : read_loaded (jobs_in old.trees) (spans_in old.trees) (files_in old.trees) ≡ Ok all
-  pub many : n ≡ length all
+  pub was : IsWhole old.trees
+  pub written : IsWritten was.schema was.layout was.id old new
+  pub many : n ≡ length was.all
 
 -- the store is open, and the catalogue of version 2 is committed
 pub record IsKept (old new : View) (n : ℕ) : Type 0 where
   pub is_open : IsTrue new.is_open
   pub fresh : IsFresh new
-  pub id : ℤ
-  pub version_was : old.trees version_tree ≡ (Int id ∷ Int (pos 1) ∷ []) ∷ []
-  pub sorted : AreSorted old.trees
-  pub moved : IsMovedFrom id old.trees new.trees
-  pub all : List JobRows
-  pub loaded : read_loaded (jobs_in old.trees) (spans_in old.trees) (files_in old.trees) ≡ Ok all
-  pub many : n ≡ length all
+  pub was : IsWhole old.trees
+  pub moved : IsMovedFrom was.schema was.layout was.id old.trees new.trees
+  pub many : n ≡ length was.all
 
--- these trees are made from the others, whose rows ascended
+-- these trees are made from the others, which were those of a catalogue of version 1
 abbrev pub IsMadeOf : Trees → Trees → Type 0
-IsMadeOf old new = AreSorted old × ((id : ℤ) × IsMovedFrom id old new)
+IsMadeOf old new = (was : IsWhole old) × IsMovedFrom was.schema was.layout was.id old new
 
 -- No fault is forgotten, only a fault shuts the store, and a crash leaves what it could leave
 -- before, or the migrated catalogue.
@@ -88,9 +94,12 @@ pub record MayMove {S : Type 0} (g : Ghosts S) (old new : S) : Type 0 where
 abbrev pub database : Schema → Trees → Database
 database schema trees = record { schema = schema; trees = trees }
 
--- a sound database of version 1 became a catalogue with its rows
+-- The trees listed a schema of version 1. If the database was sound, it became a catalogue with its
+-- rows.
 abbrev pub Migrates : Trees → Trees → Type 0
-Migrates old new = IsDatabase (database old_schema old) → IsMigrated (database old_schema old) (database moved_schema new)
+Migrates old new =
+    (schema : Schema) × (l : OldLayout) × IsOldIn schema l old
+    × (IsDatabase (database schema old) → (after : Schema) × IsMigrated (database schema old) (database after new))
 
 -- the store is open, all visible data is committed, and it is the catalogue
 pub record HasMigrated (old new : View) : Type 0 where

@@ -1,20 +1,18 @@
 -- A catalogue of version 1, which keeps the names of files in a table of their own, and the
 -- catalogue that is made from it.
 use Rattle.std.specs.Prelude.{◌≡◌, ℕ, pos, if◌then◌else◌, List, [], ◌∷◌, codes, map, Result, Err}
-use Rattle.std.specs.List.{AllByRecursion}
 use Rattle.sqlite.specs.declared.types.Value.TheVariants.{Int}
-use Rattle.sqlite.specs.Table.{Table}
 use Rattle.sqlite.specs.Tree.{Trees}
-use Rattle.sqlite.specs.View.{IsShaped}
 use Rattle.sqlite.specs.Effect.{Database, IsDatabase}
-use Rattle.sqlite_trees.specs.declared.store.Shape.TheVariants.{Table as Shaped}
 use Rattle.br_model.specs.Job.{JobRows}
 use Rattle.br_catalog_rows.specs.Load.{read_loaded}
 use Rattle.br_catalog_rows.specs.Rows.{Rows}
-use Rattle.br_catalog_rows.specs.OldTables.{old_schema}
+use Rattle.br_catalog_rows.specs.declared.old_schema.OldLayout.{OldLayout}
+use Rattle.br_catalog_rows.specs.OldSchemas.{IsOldSchema}
 use Rattle.br_store.specs.Held.{HasTables, rows_in, tree_named}
 use Rattle.br_store.specs.Made.{is_first}
 use Rattle.br_catalog_migrate.specs.OldFiles.{shown_row}
+use Rattle.br_catalog_migrate.specs.OldRead.{AreSorted}
 
 -- the rows in the trees of a database of version 1
 abbrev pub old_rows_in : Trees → Rows
@@ -30,11 +28,11 @@ read_old rows = if is_first rows.versions then read_loaded rows.jobs rows.spans 
 abbrev pub renewed : Rows → Rows
 renewed rows = record rows { versions = (Int (pos 2) ∷ []) ∷ [] }
 
--- a sound database with the tables of version 1, each with its rows in ascending order
-pub record HasOld (db : Database) : Type 0 where
-  pub schema : db.schema ≡ old_schema
+-- a sound database of version 1, with its tables in these trees and their rows in ascending order
+pub record HasOld (l : OldLayout) (db : Database) : Type 0 where
+  pub is : IsOldSchema db.schema l
   pub sound : IsDatabase db
-  pub rising : AllByRecursion (λ (t : Table). IsShaped Shaped (db.trees t.tree)) old_schema.tables
+  pub sorted : AreSorted l db.trees
 
 -- the catalogue has the rows that the catalogue of version 1 had
 pub record IsMigrated (old new : Database) : Type 0 where

@@ -2,47 +2,60 @@
 use Rattle.std.specs.Prelude.{◌≡◌, pos, List, [], ◌∷◌, length, map, Ok}
 use Rattle.sqlite.specs.declared.types.Value.TheVariants.{Int}
 use Rattle.sqlite.specs.Order.{Row}
+use Rattle.sqlite.specs.Schema.{Schema}
 use Rattle.sqlite.specs.Tree.{Trees}
+use Rattle.sqlite_catalog.specs.Listing.{Lists}
+use Rattle.sqlite_trees.specs.Objects.{catalog_tree}
 use Rattle.sqlite.specs.View.{IsShaped}
 use Rattle.sqlite_trees.specs.declared.store.Shape.TheVariants.{Table as Shaped}
 use Rattle.br_model.specs.Job.{JobRows}
 use Rattle.br_catalog_rows.specs.Load.{read_loaded}
 use Rattle.br_catalog_migrate.specs.OldFiles.{AreFiles, moved_row, shown_row}
 use Rattle.br_catalog_migrate.specs.OldNames.{AreNames}
-use Rattle.br_catalog_migrate.specs.OldTrees.{client_tree, file_tree, fileset_tree, job_tree, media_tree, name_tree, path_tree, span_tree, version_tree}
+use Rattle.br_catalog_rows.specs.declared.old_schema.OldLayout.{OldLayout}
+use Rattle.br_catalog_rows.specs.OldSchemas.{IsOldSchema}
 use Rattle.br_catalog_migrate.specs.Sound.{AreMovedRows}
 use Rattle.br_store.specs.Held.{job_shown, span_shown}
 use Rattle.br_catalog_migrate.specs.declared.migrating.Old.{Old}
 
+-- the trees list this schema, which is one of version 1 with its tables in these trees
+pub record IsOldIn (schema : Schema) (l : OldLayout) (trees : Trees) : Type 0 where
+  pub listed : Lists (trees catalog_tree) schema
+  pub is : IsOldSchema schema l
+
 -- the rows of each table have numbers that ascend
-pub record AreSorted (trees : Trees) : Type 0 where
-  pub versions : IsShaped Shaped (trees version_tree)
-  pub clients : IsShaped Shaped (trees client_tree)
-  pub filesets : IsShaped Shaped (trees fileset_tree)
-  pub media : IsShaped Shaped (trees media_tree)
-  pub paths : IsShaped Shaped (trees path_tree)
-  pub names : IsShaped Shaped (trees name_tree)
-  pub jobs : IsShaped Shaped (trees job_tree)
-  pub spans : IsShaped Shaped (trees span_tree)
-  pub files : IsShaped Shaped (trees file_tree)
+pub record AreSorted (l : OldLayout) (trees : Trees) : Type 0 where
+  pub versions : IsShaped Shaped (trees l.version)
+  pub clients : IsShaped Shaped (trees l.client)
+  pub filesets : IsShaped Shaped (trees l.fileset)
+  pub media : IsShaped Shaped (trees l.media)
+  pub paths : IsShaped Shaped (trees l.path)
+  pub names : IsShaped Shaped (trees l.filename)
+  pub jobs : IsShaped Shaped (trees l.job)
+  pub spans : IsShaped Shaped (trees l.job_media)
+  pub files : IsShaped Shaped (trees l.file)
 
 -- the rows of jobs, spans and files, with names in place of numbers
-abbrev pub jobs_in : Trees → List Row
-jobs_in trees = map (job_shown (trees client_tree) (trees fileset_tree)) (trees job_tree)
+abbrev pub jobs_in : OldLayout → Trees → List Row
+jobs_in l trees = map (job_shown (trees l.client) (trees l.fileset)) (trees l.job)
 
-abbrev pub spans_in : Trees → List Row
-spans_in trees = map (span_shown (trees media_tree)) (trees span_tree)
+abbrev pub spans_in : OldLayout → Trees → List Row
+spans_in l trees = map (span_shown (trees l.media)) (trees l.job_media)
 
-abbrev pub files_in : Trees → List Row
-files_in trees = map (shown_row (trees path_tree) (trees name_tree)) (trees file_tree)
+abbrev pub files_in : OldLayout → Trees → List Row
+files_in l trees = map (shown_row (trees l.path) (trees l.filename)) (trees l.file)
+
+-- the rows are those of a history of these jobs
+abbrev pub FormJobs : OldLayout → Trees → List JobRows → Type 0
+FormJobs l trees all = read_loaded (jobs_in l trees) (spans_in l trees) (files_in l trees) ≡ Ok all
 
 -- the one version, the names, the files and the number of jobs are these
-pub record IsReadOld (old : Old) (trees : Trees) : Type 0 where
-  pub version_is : trees version_tree ≡ (Int old.version ∷ Int (pos 1) ∷ []) ∷ []
-  pub sorted : AreSorted trees
-  pub names_are : AreNames old.names (trees name_tree)
-  pub files_are : AreFiles old.files (trees file_tree)
-  pub moved : AreMovedRows (trees file_tree) (map (moved_row (trees name_tree)) (trees file_tree))
+pub record IsReadOld (l : OldLayout) (old : Old) (trees : Trees) : Type 0 where
+  pub version_is : trees l.version ≡ (Int old.version ∷ Int (pos 1) ∷ []) ∷ []
+  pub sorted : AreSorted l trees
+  pub names_are : AreNames old.names (trees l.filename)
+  pub files_are : AreFiles old.files (trees l.file)
+  pub moved : AreMovedRows (trees l.file) (map (moved_row (trees l.filename)) (trees l.file))
   pub all : List JobRows
-  pub loaded : read_loaded (jobs_in trees) (spans_in trees) (files_in trees) ≡ Ok all
+  pub loaded : FormJobs l trees all
   pub many : old.jobs ≡ length all

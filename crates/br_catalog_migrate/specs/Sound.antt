@@ -2,16 +2,10 @@
 use Rattle.std.specs.Prelude.{◌≡◌, ℕ, ℤ, List, [], ◌∷◌}
 use Rattle.sqlite.specs.declared.types.Value.TheVariants.{Blob, Int, Null, Text}
 use Rattle.sqlite.specs.Order.{Row, column}
-use Rattle.sqlite.specs.Schema.{Schema}
 use Rattle.sqlite.specs.Tree.{Trees}
 use Rattle.sqlite_trees.specs.Tree.{with_tree}
-use Rattle.br_catalog_rows.specs.TreePlaces.{moved_layout}
-use Rattle.br_catalog_rows.specs.Tables.{only_tables}
+use Rattle.br_catalog_rows.specs.declared.old_schema.OldLayout.{OldLayout}
 use Rattle.br_catalog_migrate.specs.Renewed.{replaced}
-
--- the schema that is made from that of version 1
-abbrev pub moved_schema : Schema
-moved_schema = only_tables moved_layout
 
 -- a row of File of version 2 and the row of version 1 from which it is made: both have the numbers
 -- of one job and one path
@@ -33,6 +27,6 @@ AreMovedRows [] (n ∷ news) = ⊥
 AreMovedRows (o ∷ olds) [] = ⊥
 AreMovedRows (o ∷ olds) (n ∷ news) = IsMovedRow o n × AreMovedRows olds news
 
--- the trees of version 2
-abbrev pub moved_trees : Trees → List Row → List Row → List Row → List Row → List Row → List Row → Trees
-moved_trees trees a b c d files versions = with_tree (with_tree (replaced trees a b c d) 15 files) 0 versions
+-- the trees of version 2, with these lists of objects in between
+abbrev pub moved_trees : OldLayout → Trees → List Row → List Row → List Row → List Row → List Row → List Row → Trees
+moved_trees l trees a b c d files versions = with_tree (with_tree (replaced l trees a b c d) l.file files) l.version versions

@@ -9,7 +9,6 @@ mod old_files;
 mod old_history;
 mod old_jobs;
 mod old_names;
-mod old_trees;
 mod old_version;
 mod raw_closing;
 mod raw_files;

@@ -12,10 +12,9 @@ use crate::new_tables::{put_files, put_version, replace_tables};
 use crate::old_files::{OldFiles, read_files};
 use crate::old_history::load_jobs;
 use crate::old_names::{NameTable, read_names};
-use crate::old_trees::{NAME, PATH};
-use crate::old_version::{are_tables, check_new, check_old, read_version};
+use crate::old_version::{OldSchema, are_tables, check_new, find_old, read_version};
 use crate::tree_cursor::fault_of;
-use br_catalog_rows::StoreFault;
+use br_catalog_rows::{OldLayout, StoreFault};
 use sqlite_trees::store::{Alter, Store};
 use std::alloc::Global;
 
@@ -29,22 +28,21 @@ pub(crate) struct Old {
     jobs: u64,
 }
 
-/// Reads a catalogue of version 1, if its rows form a history.
-fn read_old<S: Alter>(alloc: Global, store: &mut S) -> Result<Old, StoreFault>
+/// Reads a catalogue of version 1 with its tables in these trees, if its rows form a history.
+fn read_old<S: Alter>(alloc: Global, store: &mut S, layout: &OldLayout) -> Result<Old, StoreFault>
     requires { IsClean (S.Store.view store.old) → (S.Store.view store.old).is_broken ≡ false }
-    ensures old { OnCleanStore S.Store store.old store.new (λ before after. IfOk result (λ old. IsReadOld old before.trees)) }
+    ensures old { OnCleanStore S.Store store.old store.new (λ before after. IfOk result (λ old. IsReadOld layout.now old before.trees)) }
     ensures reads { OnCleanStore S.Store store.old store.new (λ old new. OnOk result (Reads old new)) }
     ensures kept { CommitsNothing S.Store store.old store.new }
 {
-    check_old(alloc, store)?;
-    if !are_tables(store) {
+    if !are_tables(store, layout) {
         return Err(StoreFault::BadCatalogue);
     }
-    let version = read_version(alloc, store)?;
-    let history = load_jobs(alloc, store)?;
-    let paths = read_names(alloc, store, PATH)?;
-    let names = read_names(alloc, store, NAME)?;
-    let files = read_files(alloc, store, history.jobs(), &paths, &names)?;
+    let version = read_version(alloc, store, layout.version)?;
+    let history = load_jobs(alloc, store, layout)?;
+    let paths = read_names(alloc, store, layout.path)?;
+    let names = read_names(alloc, store, layout.filename)?;
+    let files = read_files(alloc, store, layout.file, history.jobs(), &paths, &names)?;
     Ok(Old {
         version,
         names,
@@ -54,15 +52,21 @@ fn read_old<S: Alter>(alloc: Global, store: &mut S) -> Result<Old, StoreFault>
 }
 
 /// Writes a catalogue of version 2 over the one of version 1 that was read.
-fn write_new<S: Alter>(alloc: Global, store: &mut S, old: &Old) -> Result<(), StoreFault>
+fn write_new<S: Alter>(
+    alloc: Global,
+    store: &mut S,
+    tables: &OldSchema,
+    old: &Old,
+) -> Result<(), StoreFault>
     requires numbered { IsClean (S.Store.view store.old) → IsTrue (S.Store.view store.old).is_numbered }
-    ensures written { OnCleanStore S.Store store.old store.new (λ before after. OnOk result (WritesNew old.now before after)) }
+    ensures written { OnCleanStore S.Store store.old store.new (λ before after. OnOk result (WritesNew tables.now old.now before after)) }
     ensures kept { CommitsNothing S.Store store.old store.new }
 {
-    replace_tables(alloc, store)?;
-    put_files(alloc, store, &old.files, &old.names)?;
-    put_version(alloc, store, old.version)?;
-    check_new(alloc, store)?;
+    let layout = &tables.layout;
+    replace_tables(alloc, store, layout)?;
+    put_files(alloc, store, layout.file, &old.files, &old.names)?;
+    put_version(alloc, store, layout.version, old.version)?;
+    check_new(alloc, store, tables)?;
     Ok(())
 }
 
@@ -72,8 +76,9 @@ fn rewrite<S: Alter>(alloc: Global, store: &mut S) -> Result<u64, StoreFault>
     ensures moved { OnCleanStore S.Store store.old store.new (λ old new. IfOk result (IsMoved old new)) }
     ensures kept { CommitsNothing S.Store store.old store.new }
 {
-    let old = read_old(alloc, store)?;
-    write_new(alloc, store, &old)?;
+    let tables = find_old(alloc, store)?;
+    let old = read_old(alloc, store, &tables.layout)?;
+    write_new(alloc, store, &tables, &old)?;
     Ok(old.jobs)
 }
 

@@ -8,16 +8,14 @@ ghost use Rattle.sqlite_trees.specs.Objects.{Destroys};
 ghost use Rattle.sqlite_trees.specs.Tree.{IsTable, put_row, rowid};
 ghost use Rattle.sqlite_trees.specs.View.{IsClean, SetsTree, is_int};
 ghost use Rattle.br_catalog_migrate.specs.Claims.{PutsFiles};
-ghost use Rattle.br_catalog_migrate.specs.OldTrees.{version_tree};
 ghost use Rattle.br_catalog_migrate.specs.Renewed.{MakesFile, Replaces};
 ghost use Rattle.br_catalog_migrate.specs.MigrationSteps.{CommitsNothing, OnCleanStore};
 
 use crate::old_files::OldFiles;
 use crate::old_names::NameTable;
-use crate::old_trees::{FILE, NAME, NAME_INDEX, VERSION};
 use crate::old_version::version_row;
 use crate::tree_cursor::fault_of;
-use br_catalog_rows::StoreFault;
+use br_catalog_rows::{OldLayout, StoreFault};
 use sqlite_trees::schema::Object;
 use sqlite_trees::store::{Alter, Shape, Store};
 use sqlite_value::order::is_same;
@@ -28,6 +26,9 @@ use std::alloc::Global;
 /// The text that makes the table of files of version 2.
 const CREATE_FILE: &str =
     "CREATE TABLE File(FileId INTEGER PRIMARY KEY, FileIndex INTEGER NOT NULL, JobId INTEGER NOT NULL REFERENCES Job(JobId), PathId INTEGER NOT NULL REFERENCES Path(PathId), Filename BLOB NOT NULL, LStat TEXT NOT NULL, MD5 TEXT NOT NULL)";
+
+/// The last tree that the list of objects can tell.
+const LAST_TREE: u32 = 65_535;
 
 /// Inserts a row into a table. `BadCatalogue` if the tree is not a table.
 fn put_in<S: Store>(store: &mut S, tree: u32, row: &Row) -> Result<(), StoreFault>
@@ -71,14 +72,18 @@ fn has_file(objects: &[Row]) -> bool
         .any(|object| is_same(object.get(2), ValueRef::Text(b"File")))
 }
 
-/// Makes the table of files of version 2. `BadCatalogue` if its tree or its name is not free.
-fn make_file<S: Alter>(alloc: Global, store: &mut S) -> Result<(), StoreFault>
+/// Makes the table of files of version 2 in this tree. `BadCatalogue` if the tree or the name is not
+/// free.
+fn make_file<S: Alter>(alloc: Global, store: &mut S, tree: u32) -> Result<(), StoreFault>
     requires numbered { IsClean (S.Store.view store.old) → IsTrue (S.Store.view store.old).is_numbered }
-    ensures made { OnCleanStore S.Store store.old store.new (λ old new. OnOk result (MakesFile old new)) }
+    ensures made { OnCleanStore S.Store store.old store.new (λ old new. OnOk result (MakesFile tree old new)) }
     ensures kept { CommitsNothing S.Store store.old store.new }
 {
+    if tree > LAST_TREE {
+        return Err(StoreFault::BadCatalogue);
+    }
     let objects = store.objects(alloc)?;
-    match store.shape(FILE) {
+    match store.shape(tree) {
         Shape::Absent if !has_file(&objects) => {}
         _ => return Err(StoreFault::BadCatalogue),
     }
@@ -90,7 +95,7 @@ fn make_file<S: Alter>(alloc: Global, store: &mut S) -> Result<(), StoreFault>
         reals: 0,
         sql: Some(CREATE_FILE),
     };
-    match store.create(FILE, &file) {
+    match store.create(tree, &file) {
         Ok(()) => Ok(()),
         Err(error) => Err(fault_of(error)),
     }
@@ -99,41 +104,51 @@ fn make_file<S: Alter>(alloc: Global, store: &mut S) -> Result<(), StoreFault>
 /// Makes the table of files again, in which a row has the name of its file, and drops the
 /// table of names.
 #[tactic(auto, using(crate::proofs::StepLaws::stays_numbered))]
-pub(crate) fn replace_tables<S: Alter>(alloc: Global, store: &mut S) -> Result<(), StoreFault>
+pub(crate) fn replace_tables<S: Alter>(
+    alloc: Global,
+    store: &mut S,
+    layout: &OldLayout,
+) -> Result<(), StoreFault>
     requires numbered { IsClean (S.Store.view store.old) → IsTrue (S.Store.view store.old).is_numbered }
-    ensures replaced { OnCleanStore S.Store store.old store.new (λ old new. OnOk result (Replaces old new)) }
+    ensures replaced { OnCleanStore S.Store store.old store.new (λ old new. OnOk result (Replaces layout.now old new)) }
     ensures kept { CommitsNothing S.Store store.old store.new }
 {
-    drop_tree(store, FILE)?;
-    drop_tree(store, NAME_INDEX)?;
-    drop_tree(store, NAME)?;
-    make_file(alloc, store)
+    drop_tree(store, layout.file)?;
+    drop_tree(store, layout.filename_index)?;
+    drop_tree(store, layout.filename)?;
+    make_file(alloc, store, layout.file)
 }
 
-/// Inserts the rows of files into their table, which is empty.
+/// Inserts the rows of files into their table, which is in this tree and empty.
 pub(crate) fn put_files<S: Store>(
     alloc: Global,
     store: &mut S,
+    tree: u32,
     files: &OldFiles,
     names: &NameTable,
 ) -> Result<(), StoreFault>
-    ensures put { OnCleanStore S.Store store.old store.new (λ old new. OnOk result (PutsFiles files.now names.now old new)) }
+    ensures put { OnCleanStore S.Store store.old store.new (λ old new. OnOk result (PutsFiles tree files.now names.now old new)) }
     ensures kept { CommitsNothing S.Store store.old store.new }
 {
     let mut row = Row::new(alloc);
     for at in 0..files.len() {
         files.moved_at(at, names, &mut row)?;
-        put_in(store, FILE, &row)?;
+        put_in(store, tree, &row)?;
     }
     Ok(())
 }
 
-/// Writes version 2 over the version with this number.
-pub(crate) fn put_version<S: Store>(alloc: Global, store: &mut S, id: i64) -> Result<(), StoreFault>
+/// Writes version 2 over the version with this number, whose table is in this tree.
+pub(crate) fn put_version<S: Store>(
+    alloc: Global,
+    store: &mut S,
+    tree: u32,
+    id: i64,
+) -> Result<(), StoreFault>
     ensures put { OnCleanStore S.Store store.old store.new (λ old new. OnOk result
-        (SetsTree old new version_tree (put_row (Int id ∷ Int (pos 2) ∷ [])))) }
+        (SetsTree old new tree (put_row (Int id ∷ Int (pos 2) ∷ [])))) }
     ensures kept { CommitsNothing S.Store store.old store.new }
 {
     let row = version_row(alloc, id, 2)?;
-    put_in(store, VERSION, &row)
+    put_in(store, tree, &row)
 }

@@ -12,14 +12,12 @@ ghost use Rattle.std.specs.Str.{is_utf8};
 ghost use Rattle.br_catalog_migrate.specs.Claims.{CanBelong, CanMove, IsMovedAt, TakesFile};
 ghost use Rattle.br_catalog_migrate.specs.OldFiles.{AreFiles, IsOldFile, IsWholeFile, moved_row};
 ghost use Rattle.br_catalog_migrate.specs.OldNames.{AreNames};
-ghost use Rattle.br_catalog_migrate.specs.OldTrees.{file_tree};
 ghost use Rattle.br_catalog_migrate.specs.Sound.{IsMovedRow};
 ghost use Rattle.br_catalog_migrate.specs.MigrationSteps.{CommitsNothing, OnCleanStore, Reads};
 ghost use Rattle.br_catalog_migrate.specs.WholeMigration.{AreWhole};
 
 use crate::old_digest::is_digest;
 use crate::old_names::NameTable;
-use crate::old_trees::FILE;
 use crate::seen_indexes::{Indexes, no_indexes, note};
 use crate::tree_cursor::{start, step};
 use br_attr::Stat;
@@ -250,7 +248,7 @@ impl OldFilesReading {
     }
 }
 
-/// Reads the rows of File, if a history with these jobs can have the files. `paths` and `names` are
+/// Reads the rows of File, which is in this tree, if a history with these jobs can have the files. `paths` and `names` are
 /// the names to which rows of File refer by number.
 ///
 /// # Errors
@@ -260,19 +258,20 @@ impl OldFilesReading {
 pub(crate) fn read_files<S: Store>(
     alloc: Global,
     store: &mut S,
+    tree: u32,
     jobs: &[JobRows],
     paths: &NameTable,
     names: &NameTable,
 ) -> Result<OldFiles, StoreFault>
-    ensures files { OnCleanStore S.Store store.old store.new (λ old new. IfOk result (λ files. AreFiles files (old.trees file_tree))) }
-    ensures moved { OnCleanStore S.Store store.old store.new (λ old new. OnOk result (CanMove names.now old.trees)) }
-    ensures whole { OnCleanStore S.Store store.old store.new (λ old new. OnOk result (CanBelong jobs.now paths.now names.now old.trees)) }
+    ensures files { OnCleanStore S.Store store.old store.new (λ old new. IfOk result (λ files. AreFiles files (old.trees tree))) }
+    ensures moved { OnCleanStore S.Store store.old store.new (λ old new. OnOk result (CanMove names.now (old.trees tree))) }
+    ensures whole { OnCleanStore S.Store store.old store.new (λ old new. OnOk result (CanBelong jobs.now paths.now names.now (old.trees tree))) }
     ensures reads { OnCleanStore S.Store store.old store.new (λ old new. OnOk result (Reads old new)) }
     ensures kept { CommitsNothing S.Store store.old store.new }
 {
     let mut reading = OldFilesReading::new(alloc, jobs)?;
     let mut row = Row::new(alloc);
-    start(store, FILE, &row)?;
+    start(store, tree, &row)?;
     'rows: for _ in 0..u64::MAX {
         if !step(store, &mut row)? {
             return Ok(reading.files);

@@ -8,8 +8,7 @@ ghost use Rattle.br_catalog_migrate.specs.MigrationSteps.{CommitsNothing, OnClea
 
 use crate::old_jobs::{keep, read_jobs, read_spans};
 use crate::old_names::read_names;
-use crate::old_trees::{CLIENT, FILESET, MEDIA};
-use br_catalog_rows::{CatalogueRows, StoreFault, history_of};
+use br_catalog_rows::{CatalogueRows, OldLayout, StoreFault, history_of};
 use br_history::History;
 use sqlite::Row as Shown;
 use sqlite_exec::work::FromRow;
@@ -32,25 +31,29 @@ fn history_in(alloc: Global, jobs: Vec<Shown>, spans: Vec<Shown>) -> Result<Hist
         spans,
         files: Vec::new(alloc),
     };
-    history_of(alloc, &rows)
+    Ok(history_of(alloc, &rows)?)
 }
 
-/// Loads the jobs without their files.
+/// Loads the jobs without their files, from the tables in these trees.
 ///
 /// # Errors
 ///
 /// `BadCatalogue` if they form no history; `Store`, with its cause, if the store fails; `Memory` if memory
 /// runs out.
-pub(crate) fn load_jobs<S: Store>(alloc: Global, store: &mut S) -> Result<History, StoreFault>
-    ensures jobs { OnCleanStore S.Store store.old store.new (λ old new. IfOk result (AreBareJobs old.trees)) }
+pub(crate) fn load_jobs<S: Store>(
+    alloc: Global,
+    store: &mut S,
+    layout: &OldLayout,
+) -> Result<History, StoreFault>
+    ensures jobs { OnCleanStore S.Store store.old store.new (λ old new. IfOk result (AreBareJobs layout.now old.trees)) }
     ensures reads { OnCleanStore S.Store store.old store.new (λ old new. OnOk result (Reads old new)) }
     ensures kept { CommitsNothing S.Store store.old store.new }
 {
-    let clients = read_names(alloc, store, CLIENT)?;
-    let filesets = read_names(alloc, store, FILESET)?;
-    let media = read_names(alloc, store, MEDIA)?;
-    let jobs = read_jobs(alloc, store, &clients, &filesets)?;
-    let spans = read_spans(alloc, store, &media)?;
+    let clients = read_names(alloc, store, layout.client)?;
+    let filesets = read_names(alloc, store, layout.fileset)?;
+    let media = read_names(alloc, store, layout.media)?;
+    let jobs = read_jobs(alloc, store, layout.job, &clients, &filesets)?;
+    let spans = read_spans(alloc, store, layout.job_media, &media)?;
     let history = history_in(alloc, jobs, spans)?;
     Ok(history)
 }

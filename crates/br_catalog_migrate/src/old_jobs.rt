@@ -10,7 +10,6 @@ ghost use Rattle.br_catalog_migrate.specs.OldNames.{AreNames};
 ghost use Rattle.br_catalog_migrate.specs.MigrationSteps.{CommitsNothing, OnCleanStore, Reads};
 
 use crate::old_names::NameTable;
-use crate::old_trees::{JOB, SPAN};
 use crate::tree_cursor::{start, step};
 use br_catalog_rows::StoreFault;
 use sqlite::Row as Shown;
@@ -80,7 +79,7 @@ pub(crate) fn keep(rows: &mut Vec<Shown>, row: Shown) -> Result<(), StoreFault>
     Ok(())
 }
 
-/// Reads the rows of Job, with names in place of numbers.
+/// Reads the rows of Job, which is in this tree, with names in place of numbers.
 ///
 /// # Errors
 ///
@@ -89,17 +88,18 @@ pub(crate) fn keep(rows: &mut Vec<Shown>, row: Shown) -> Result<(), StoreFault>
 pub(crate) fn read_jobs<S: Store>(
     alloc: Global,
     store: &mut S,
+    tree: u32,
     clients: &NameTable,
     filesets: &NameTable,
 ) -> Result<Vec<Shown>, StoreFault>
     ensures jobs { OnCleanStore S.Store store.old store.new (λ old new. IfOk result
-        (λ jobs. ShowJobs clients.now filesets.now old.trees jobs.items)) }
+        (λ jobs. ShowJobs clients.now filesets.now (old.trees tree) jobs.items)) }
     ensures reads { OnCleanStore S.Store store.old store.new (λ old new. OnOk result (Reads old new)) }
     ensures kept { CommitsNothing S.Store store.old store.new }
 {
     let mut jobs = Vec::new(alloc);
     let mut row = Row::new(alloc);
-    start(store, JOB, &row)?;
+    start(store, tree, &row)?;
     'rows: for _ in 0..u64::MAX {
         if !step(store, &mut row)? {
             return Ok(jobs);
@@ -111,7 +111,7 @@ pub(crate) fn read_jobs<S: Store>(
     Err(StoreFault::Memory)
 }
 
-/// Reads the rows of JobMedia, with names in place of numbers.
+/// Reads the rows of JobMedia, which is in this tree, with names in place of numbers.
 ///
 /// # Errors
 ///
@@ -120,15 +120,16 @@ pub(crate) fn read_jobs<S: Store>(
 pub(crate) fn read_spans<S: Store>(
     alloc: Global,
     store: &mut S,
+    tree: u32,
     media: &NameTable,
 ) -> Result<Vec<Shown>, StoreFault>
-    ensures spans { OnCleanStore S.Store store.old store.new (λ old new. IfOk result (λ spans. ShowSpans media.now old.trees spans.items)) }
+    ensures spans { OnCleanStore S.Store store.old store.new (λ old new. IfOk result (λ spans. ShowSpans media.now (old.trees tree) spans.items)) }
     ensures reads { OnCleanStore S.Store store.old store.new (λ old new. OnOk result (Reads old new)) }
     ensures kept { CommitsNothing S.Store store.old store.new }
 {
     let mut spans = Vec::new(alloc);
     let mut row = Row::new(alloc);
-    start(store, SPAN, &row)?;
+    start(store, tree, &row)?;
     'rows: for _ in 0..u64::MAX {
         if !step(store, &mut row)? {
             return Ok(spans);

@@ -6,14 +6,14 @@ ghost use Rattle.sqlite_trees.specs.Objects.{catalog_tree};
 ghost use Rattle.sqlite_trees.specs.View.{IsClean};
 ghost use Rattle.sqlite_trees.specs.declared.store.Shape.TheVariants.{Table};
 ghost use Rattle.sqlite_catalog.specs.Listing.{Lists};
-ghost use Rattle.br_catalog_rows.specs.OldTables.{old_schema};
-ghost use Rattle.br_catalog_migrate.specs.OldTrees.{version_tree};
-ghost use Rattle.br_catalog_migrate.specs.Sound.{moved_schema};
+ghost use Rattle.br_catalog_rows.specs.OldSchemas.{IsMovedSchema};
+ghost use Rattle.br_catalog_migrate.specs.OldRead.{IsOldIn};
 ghost use Rattle.br_catalog_migrate.specs.MigrationSteps.{AreTables, CommitsNothing, OnCleanStore, Reads};
 
-use crate::old_trees::{CLIENT, FILE, FILESET, JOB, MEDIA, NAME, PATH, SPAN, VERSION};
 use crate::tree_cursor::{start, step};
-use br_catalog_rows::{StoreFault, is_empty, is_moved, is_old, is_ours};
+use br_catalog_rows::{
+    OldLayout, StoreFault, is_empty, is_moved, is_ours, old_layout, version_tree,
+};
 use sqlite::{Error, ErrorCode};
 use sqlite_catalog::load::load;
 use sqlite_schema::schema::Schema;
@@ -46,20 +46,24 @@ fn first_version(alloc: Global, row: &Row) -> Result<i64, StoreFault>
     Err(StoreFault::BadCatalogue)
 }
 
-/// Returns the rowid of the one version, which is 1.
+/// Returns the rowid of the one version, which is 1. Its table is in this tree.
 ///
 /// # Errors
 ///
 /// `BadCatalogue` if the version is not the one row 1; `Store`, with its cause, if the store fails.
-pub(crate) fn read_version<S: Store>(alloc: Global, store: &mut S) -> Result<i64, StoreFault>
+pub(crate) fn read_version<S: Store>(
+    alloc: Global,
+    store: &mut S,
+    tree: u32,
+) -> Result<i64, StoreFault>
     ensures version { OnCleanStore S.Store store.old store.new (λ old new. IfOk result
-        (λ id. old.trees version_tree ≡ (Int id ∷ Int (pos 1) ∷ []) ∷ [])) }
+        (λ id. old.trees tree ≡ (Int id ∷ Int (pos 1) ∷ []) ∷ [])) }
     ensures reads { OnCleanStore S.Store store.old store.new (λ old new. OnOk result (Reads old new)) }
     ensures kept { CommitsNothing S.Store store.old store.new }
 {
     let mut row = Row::new(alloc);
     let mut more = Row::new(alloc);
-    start(store, VERSION, &row)?;
+    start(store, tree, &row)?;
     if !step(store, &mut row)? {
         return Err(StoreFault::BadCatalogue);
     }
@@ -81,48 +85,92 @@ fn is_table<S: Store>(store: &S, tree: u32) -> bool
 }
 
 /// Returns whether the trees of the tables of version 1 are tables.
-pub(crate) fn are_tables<S: Store>(store: &S) -> bool
-    ensures { IsTrue result → AreTables (S.Store.view store.now) }
+pub(crate) fn are_tables<S: Store>(store: &S, layout: &OldLayout) -> bool
+    ensures { IsTrue result → AreTables layout.now (S.Store.view store.now) }
 {
-    is_table(store, VERSION)
-        && is_table(store, CLIENT)
-        && is_table(store, FILESET)
-        && is_table(store, MEDIA)
-        && is_table(store, PATH)
-        && is_table(store, NAME)
-        && is_table(store, JOB)
-        && is_table(store, SPAN)
-        && is_table(store, FILE)
+    is_table(store, layout.version)
+        && is_table(store, layout.client)
+        && is_table(store, layout.fileset)
+        && is_table(store, layout.media)
+        && is_table(store, layout.path)
+        && is_table(store, layout.filename)
+        && is_table(store, layout.job)
+        && is_table(store, layout.job_media)
+        && is_table(store, layout.file)
 }
 
-/// Returns why a database without the tables of version 1 is not migrated.
-fn refusal_of_other(schema: &Schema) -> StoreFault {
-    if is_empty(schema) || is_ours(schema) {
-        StoreFault::BadCatalogue
-    } else {
-        StoreFault::Store(Error::SqliteFailure(ErrorCode::NotADatabase))
+/// The schema of a catalogue of version 1, and the trees of its tables.
+#[derive(Drop)]
+pub(crate) struct OldSchema {
+    pub(crate) schema: Schema,
+    pub(crate) layout: OldLayout,
+}
+
+/// Returns why a database is refused that is no catalogue.
+fn not_a_catalogue() -> StoreFault {
+    StoreFault::Store(Error::SqliteFailure(ErrorCode::NotADatabase))
+}
+
+/// Returns the schema that a store lists.
+fn schema_in<S: Alter>(alloc: Global, store: &S) -> Result<Schema, StoreFault>
+    requires { IsClean (S.Store.view store.now) → (S.Store.view store.now).is_broken ≡ false }
+    ensures { IsClean (S.Store.view store.now) → IfOk result (Lists ((S.Store.view store.now).trees catalog_tree)) }
+{
+    match load(store, alloc)? {
+        Some(schema) => Ok(schema),
+        None => Err(not_a_catalogue()),
     }
 }
 
-/// Returns why a database is not migrated, unless it has the tables of version 1.
-pub(crate) fn check_old<S: Alter>(alloc: Global, store: &S) -> Result<(), StoreFault>
-    requires { IsClean (S.Store.view store.now) → (S.Store.view store.now).is_broken ≡ false }
-    ensures { IsClean (S.Store.view store.now) → OnOk result (Lists ((S.Store.view store.now).trees catalog_tree) old_schema) }
+/// Returns why a database without the tables of version 1 is not migrated: `BadCatalogue` if it is
+/// empty, has the tables of version 2, or has a version other than the one row 1.
+fn refusal_of_other<S: Alter>(alloc: Global, store: &mut S, schema: &Schema) -> StoreFault
+    ensures kept { CommitsNothing S.Store store.old store.new }
 {
-    match load(store, alloc)? {
-        Some(schema) if is_old(&schema) => Ok(()),
-        Some(schema) => Err(refusal_of_other(&schema)),
-        None => Err(StoreFault::Store(Error::SqliteFailure(ErrorCode::NotADatabase))),
+    if is_empty(schema) || is_ours(schema) {
+        return StoreFault::BadCatalogue;
+    }
+    let Some(tree) = version_tree(schema) else {
+        return not_a_catalogue();
+    };
+    match read_version(alloc, store, tree) {
+        Ok(_id) => not_a_catalogue(),
+        Err(fault) => fault,
+    }
+}
+
+/// Returns the schema of a database of version 1, and the trees of its tables.
+///
+/// # Errors
+///
+/// `BadCatalogue` if the database is empty, has the tables of version 2, or a version other than the one row 1;
+/// `Store`, with its cause, if the store fails or has other tables; `Memory` if memory runs out.
+pub(crate) fn find_old<S: Alter>(alloc: Global, store: &mut S) -> Result<OldSchema, StoreFault>
+    requires { IsClean (S.Store.view store.old) → (S.Store.view store.old).is_broken ≡ false }
+    ensures old { OnCleanStore S.Store store.old store.new (λ before after.
+        IfOk result (λ tables. IsOldIn tables.schema tables.layout before.trees)) }
+    ensures reads { OnCleanStore S.Store store.old store.new (λ old new. OnOk result (Reads old new)) }
+    ensures kept { CommitsNothing S.Store store.old store.new }
+{
+    let schema = schema_in(alloc, store)?;
+    match old_layout(&schema) {
+        Some(layout) => Ok(OldSchema { schema, layout }),
+        None => Err(refusal_of_other(alloc, store, &schema)),
     }
 }
 
 /// Returns `BadCatalogue` unless a database lists the tables of version 2 as a migration makes them.
-pub(crate) fn check_new<S: Alter>(alloc: Global, store: &S) -> Result<(), StoreFault>
+pub(crate) fn check_new<S: Alter>(
+    alloc: Global,
+    store: &S,
+    old: &OldSchema,
+) -> Result<(), StoreFault>
     requires { IsClean (S.Store.view store.now) → (S.Store.view store.now).is_broken ≡ false }
-    ensures { IsClean (S.Store.view store.now) → OnOk result (Lists ((S.Store.view store.now).trees catalog_tree) moved_schema) }
+    ensures { IsClean (S.Store.view store.now) → OnOk result ((after : _)
+        × Lists ((S.Store.view store.now).trees catalog_tree) after × IsMovedSchema after old.now.schema old.now.layout) }
 {
     match load(store, alloc)? {
-        Some(schema) if is_moved(&schema) => Ok(()),
+        Some(schema) if is_moved(&schema, &old.schema, &old.layout) => Ok(()),
         _ => Err(StoreFault::BadCatalogue),
     }
 }

@@ -14,9 +14,9 @@ use Rattle.br_history.specs.Fault.{cause as history_cause}
 use Rattle.br_history.specs.declared.fault.HistoryFault.{HistoryFault}
 use Rattle.br_history.specs.declared.fault.HistoryFault.TheVariants as rows
 use Rattle.br_history.proofs.ClashLaws.{no_pair_push}
-use Rattle.br_catalog_rows.specs.declared.fault.StoreFault.{StoreFault}
-use Rattle.br_catalog_rows.specs.declared.fault.StoreFault.TheVariants.{Memory, Store, BadCatalogue, OldCatalogue}
-use Rattle.br_catalog_rows.specs.Fault.{cause, of_history_fault}
+use Rattle.br_catalog_rows.specs.declared.fault.RowsFault.{RowsFault}
+use Rattle.br_catalog_rows.specs.declared.fault.RowsFault.TheVariants.{Memory, BadRows}
+use Rattle.br_catalog_rows.specs.Fault.{rows_cause, of_history_fault}
 use Rattle.br_catalog_rows.specs.Decode.{small}
 use Rattle.br_catalog_rows.specs.Load.{read_all, is_read, is_of, has_job, by_job, if_apart}
 
@@ -93,11 +93,9 @@ lent_fails read rows i xs b lt at before is =
 -- ---- refusals
 
 -- if one refuses, so does the other
-pub same_refusal : {X Y : Type 0} (e : StoreFault) (q : Result X ℕ) (p : Result Y ℕ) → (q ≡ Err 47 → p ≡ Err 47) → IsRefusal (cause e) q → IsRefusal (cause e) p
+pub same_refusal : {X Y : Type 0} (e : RowsFault) (q : Result X ℕ) (p : Result Y ℕ) → (q ≡ Err 47 → p ≡ Err 47) → IsRefusal (rows_cause e) q → IsRefusal (rows_cause e) p
 same_refusal Memory q p f h = tt
-same_refusal (Store why) q p f h = tt
-same_refusal BadCatalogue q p f h = f h
-same_refusal OldCatalogue q p f h = f h
+same_refusal BadRows q p f h = f h
 
 pub refused_lacks : (b : Bool) → refuse_if {E = ℕ} (not b) 47 ≡ Err 47 → b ≡ false
 refused_lacks true e = absurd cc
@@ -182,7 +180,7 @@ still_apart h j e before = go (list_any (λ (k : JobRows). k.row.id == j.row.id)
         ∙ and_from _ _ before (ap not (neither (λ (k : JobRows). k.row.id == j.row.id) (λ (k : JobRows). same_session k.row.session j.row.session) h is on))
 
 -- a history that can't take the next job
-pub apart_fails : (e : HistoryFault) (h rest : List JobRows) (j : JobRows) → IsRefusal (history_cause e) (pushed h j) → IsRefusal (cause (of_history_fault e)) (if_apart (h ++ j ∷ rest))
+pub apart_fails : (e : HistoryFault) (h rest : List JobRows) (j : JobRows) → IsRefusal (history_cause e) (pushed h j) → IsRefusal (rows_cause (of_history_fault e)) (if_apart (h ++ j ∷ rest))
 unfolding if_apart
 apart_fails rows.Memory h rest j is = tt
 apart_fails rows.DuplicateJob h rest j is = rw (behind_a_clash h rest j (refused_clashes h j 40 is)) refl

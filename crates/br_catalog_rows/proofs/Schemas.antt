@@ -1,11 +1,11 @@
 -- Schemas that have the catalogue's tables.
-use Rattle.std.proofs.Common.{◌≡◌, ℕ, List, [], ◌∷◌, ◌++◌, drop, length, map, Some, None, codes, slice_get, refl, sym, ap, ap₂, subst, ◌∙◌}
+use Rattle.std.proofs.Common.{◌≡◌, ◌==◌, ◌^◌, ℕ, false, nat_le, List, [], ◌∷◌, ◌++◌, drop, length, map, Some, None, codes, slice_get, refl, sym, ap, ap₂, subst, ◌∙◌}
 use Rattle.std.specs.List.{position_from}
 use Rattle.sqlite.specs.Schema.{Schema}
 use Rattle.sqlite.specs.Table.{Table}
 use Rattle.sqlite_schema.specs.Names.{column_named, same_name}
-use Rattle.br_catalog_rows.specs.SchemaShapes.{Fits, HasShape, column_of, orders_of, own_of, reference_of, table_of, uniques_of}
-use Rattle.br_catalog_rows.specs.KnownSchemas.{Own, with_own}
+use Rattle.br_catalog_rows.specs.SchemaShapes.{Fits, FitsIn, HasShape, column_of, orders_of, own_of, reference_of, table_of, uniques_of}
+use Rattle.br_catalog_rows.specs.KnownSchemas.{Own, Stands, with_own}
 use Rattle.br_catalog_rows.specs.declared.schema_shape.TableShape.{TableShape}
 
 -- what comes after a list is what was appended to it
@@ -47,3 +47,15 @@ found schema s h =
     let u = with_own (table_of s h.0) h.1 in
     let it = h.2 in
     (it.place, it.named, (u, it.is, (ap (with_own (table_of s h.0)) (sym (own_is s h.0 h.1)), (it.placed, (it.stored, it.numbered)))))
+
+-- the same of a table of just this shape in a tree
+pub stands_in : (schema : Schema) (s : TableShape) (tree place : ℕ) (t : Table) → position_from (λ (u : Table). same_name u.name s.name.now) 0 schema.tables ≡ Some place
+    → slice_get schema.tables place ≡ Some t → FitsIn schema s tree place t → Stands schema (table_of s tree)
+stands_in schema s tree place t named is fit = record {
+  place = place;
+  named = named;
+  placed = subst (λ (w : Table). position_from (λ (u : Table). u.tree == w.tree) 0 schema.tables ≡ Some place) fit.0 fit.1.0;
+  is = is ∙ ap Some fit.0;
+  stored = subst (λ (u : Table). nat_le (2 ^ 31) u.tree ≡ false) fit.0 fit.1.1.0;
+  numbered = subst (λ (u : Table). u.key ≡ None → column_named u (codes "rowid") ≡ None) fit.0 fit.1.1.1;
+}

@@ -70,6 +70,10 @@ no_own = record { columns = []; uniques = []; orders = []; checks = []; referenc
 abbrev pub no_owns : Owns
 no_owns = record { version = no_own; client = no_own; fileset = no_own; media = no_own; path = no_own; job = no_own; job_media = no_own; file = no_own }
 
+-- the schema has the table of the version, in some tree and perhaps with columns of the user
+abbrev pub HasVersionTable : Schema → Type 0
+HasVersionTable schema = (tree : ℕ) × (own : Own) × Stands schema (with_own (version tree) own)
+
 -- the schema has the catalogue's tables
 abbrev pub IsStoreSchema : Schema → Type 0
 IsStoreSchema schema = (l : Layout) × (o : Owns) × HasAll schema l o

@@ -8,3 +8,4 @@ pub mod Tables
 pub mod OldTables
 pub mod SchemaShapes
 pub mod KnownSchemas
+pub mod OldSchemas

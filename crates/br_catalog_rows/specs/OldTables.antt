@@ -1,25 +1,21 @@
 -- The tables of version 1: the name of a file has a table of its own, and a row of File has its
 -- number.
-use Rattle.std.specs.Prelude.{ℕ, ◌+◌, [], ◌∷◌, codes, List}
+use Rattle.std.specs.Prelude.{ℕ, ◌^◌, ◌==◌, ◌&&◌, Bool, if◌then◌else◌, nat_le, not, [], ◌∷◌, codes, List}
 use Rattle.sqlite.specs.Table.{Table}
-use Rattle.sqlite.specs.Schema.{Schema}
 use Rattle.sqlite.specs.Kind.TheVariants.{Integer, Text, Any}
 use Rattle.sqlite_schema.specs.declared.schema.Column.{Column}
 use Rattle.sqlite_schema.specs.declared.schema.Index.{Index}
 use Rattle.sqlite_schema.specs.declared.schema.Reference.{Reference}
-use Rattle.br_catalog_rows.specs.TreePlaces.{name_column, file_job, file_path, file_filename}
-use Rattle.br_catalog_rows.specs.Tables.{column, key_column, refers, keyed_table, unique_index}
+use Rattle.br_catalog_rows.specs.TreePlaces.{Layout, name_column, file_job, file_path, file_filename}
+use Rattle.br_catalog_rows.specs.Tables.{column, key_column, refers, keyed_table}
 use Rattle.br_catalog_rows.specs.Tables.{version, client, fileset, media, path, job, job_media}
-use Rattle.br_catalog_rows.specs.Tables.{client_index, fileset_index, media_index, path_index, job_index, job_media_index}
+use Rattle.br_catalog_rows.specs.declared.old_schema.OldLayout.{OldLayout}
 
 abbrev pub filename_columns : List Column
 filename_columns = key_column (codes "FilenameId") ∷ column (codes "Name") Any ∷ []
 
 abbrev pub filename : ℕ → Table
 filename tree = keyed_table (codes "Filename") tree filename_columns ((name_column ∷ []) ∷ []) []
-
-abbrev pub filename_index : ℕ → Index
-filename_index tree = unique_index (codes "sqlite_autoindex_Filename_1") (tree + 1) tree (name_column ∷ [])
 
 abbrev pub old_file_columns : List Column
 old_file_columns =
@@ -36,10 +32,41 @@ old_file_references =
 abbrev pub old_file : ℕ → Table
 old_file tree = keyed_table (codes "File") tree old_file_columns [] old_file_references
 
--- the tables of version 1 and the indexes of their keys, in the order in which they are made
-abbrev pub old_schema : Schema
-old_schema = record {
-  tables = version 0 ∷ client 1 ∷ fileset 3 ∷ media 5 ∷ path 7 ∷ filename 9 ∷ job 11 ∷ job_media 13 ∷ old_file 15 ∷ [];
-  indexes = client_index 1 ∷ fileset_index 3 ∷ media_index 5 ∷ path_index 7 ∷ filename_index 9 ∷ job_index 11 ∷ job_media_index 13 ∷ [];
-  views = [];
+-- the tables of version 1 in these trees
+abbrev pub old_tables_at : OldLayout → List Table
+old_tables_at l =
+    version l.version ∷ client l.client ∷ fileset l.fileset ∷ media l.media ∷ path l.path ∷ filename l.filename ∷ job l.job
+    ∷ job_media l.job_media ∷ old_file l.file ∷ []
+
+-- their trees
+abbrev pub old_trees : OldLayout → List ℕ
+old_trees l = l.version ∷ l.client ∷ l.fileset ∷ l.media ∷ l.path ∷ l.filename ∷ l.job ∷ l.job_media ∷ l.file ∷ []
+
+-- the trees of the tables of version 2 that a migration makes of them
+abbrev pub moved_layout : OldLayout → Layout
+moved_layout l = record {
+  version = l.version;
+  client = l.client;
+  fileset = l.fileset;
+  media = l.media;
+  path = l.path;
+  job = l.job;
+  job_media = l.job_media;
+  file = l.file;
 }
+
+abbrev pub moved_trees : OldLayout → List ℕ
+moved_trees l = l.version ∷ l.client ∷ l.fileset ∷ l.media ∷ l.path ∷ l.job ∷ l.job_media ∷ l.file ∷ []
+
+-- a migration neither drops this tree nor makes it again
+abbrev pub spares_tree : OldLayout → ℕ → Bool
+spares_tree l tree = not (tree == l.filename) && (not (tree == l.filename_index) && not (tree == l.file))
+
+-- a migration leaves this tree as it is
+abbrev pub keeps_tree : OldLayout → ℕ → Bool
+keeps_tree l tree = not (nat_le (2 ^ 31) tree) && (not (tree == l.version) && spares_tree l tree)
+
+-- the index may be beside the tables of version 1: it is that of the names of files, or of a table
+-- that a migration leaves as it is
+abbrev pub fits_index : OldLayout → Index → Bool
+fits_index l i = if i.table == l.filename then i.tree == l.filename_index else keeps_tree l i.table

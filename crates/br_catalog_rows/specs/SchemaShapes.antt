@@ -11,13 +11,11 @@ use Rattle.sqlite.specs.Schema.{Schema}
 use Rattle.sqlite_value.specs.declared.keys.Order.{Order}
 use Rattle.sqlite_schema.specs.declared.schema.Action.TheVariants.{NoAction}
 use Rattle.sqlite_schema.specs.declared.schema.Column.{Column}
-use Rattle.sqlite_schema.specs.declared.schema.Index.{Index}
 use Rattle.sqlite_schema.specs.declared.schema.Reference.{Reference}
 use Rattle.sqlite_schema.specs.Names.{column_named}
-use Rattle.br_catalog_rows.specs.Tables.{column, key_column, refers, unique_index}
+use Rattle.br_catalog_rows.specs.Tables.{column, key_column, refers}
 use Rattle.br_catalog_rows.specs.declared.schema_shape.ColumnShape.{ColumnShape}
 use Rattle.br_catalog_rows.specs.declared.schema_shape.ColumnShape.TheVariants.{Key, Integer, Text, Any}
-use Rattle.br_catalog_rows.specs.declared.schema_shape.IndexShape.{IndexShape}
 use Rattle.br_catalog_rows.specs.declared.schema_shape.ReferenceShape.{ReferenceShape}
 use Rattle.br_catalog_rows.specs.KnownSchemas.{Own, Stands, with_own}
 use Rattle.br_catalog_rows.specs.declared.schema_shape.TableShape.{TableShape}
@@ -42,10 +40,6 @@ reference_of s = refers s.place s.parent.now s.name.now
 -- wait for the commit
 abbrev pub HasNoAction : Reference → Type 0
 HasNoAction reference = (reference.on_delete ≡ NoAction) × (reference.on_update ≡ NoAction) × (reference.is_deferred ≡ false)
-
--- the index of a shape
-abbrev pub index_of : IndexShape → Index
-index_of s = unique_index s.name.now s.tree s.table s.columns.now
 
 -- the key is the first column, if there is one
 abbrev pub key_of : Bool → Option ℕ
@@ -138,3 +132,7 @@ Fits schema s place t = (t ≡ with_own (table_of s t.tree) (own_of s t)) × IsF
 -- the schema has a table of this shape, perhaps with additions
 abbrev pub HasShape : Schema → TableShape → Type 0
 HasShape schema s = (tree : ℕ) × (own : Own) × Stands schema (with_own (table_of s tree) own)
+
+-- the table at a place of a schema has just this shape in this tree, and is where it is found
+abbrev pub FitsIn : Schema → TableShape → ℕ → ℕ → Table → Type 0
+FitsIn schema s tree place t = (t ≡ table_of s tree) × IsFound schema place t

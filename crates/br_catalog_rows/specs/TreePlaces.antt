@@ -18,11 +18,6 @@ pub record Layout : Type 0 where
 abbrev pub new_layout : Layout
 new_layout = record { version = 0; client = 1; fileset = 3; media = 5; path = 7; job = 9; job_media = 11; file = 13 }
 
--- The trees of a catalogue that was of version 1: the table of names between Path and Job is gone,
--- and its number with it.
-abbrev pub moved_layout : Layout
-moved_layout = record { version = 0; client = 1; fileset = 3; media = 5; path = 7; job = 11; job_media = 13; file = 15 }
-
 -- ---- columns
 
 -- the row's number, which is the key of each table but Version

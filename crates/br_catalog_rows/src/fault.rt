@@ -1,7 +1,8 @@
 //! Why a call on the catalogue fails.
 
 ghost use Rattle.std.specs.Prelude.{◌≡◌};
-ghost use Rattle.br_catalog_rows.specs.Fault.{fault_number, of_history_fault, of_name_fault};
+ghost use Rattle.br_catalog_rows.specs.Fault.{fault_number, of_history_fault, of_name_fault, of_rows_fault};
+ghost use Rattle.br_catalog_rows.specs.declared.fault.RowsFault.TheVariants as rows;
 ghost use Rattle.br_catalog_rows.specs.declared.fault.StoreFault.TheVariants.{Memory, Store};
 
 use br_history::HistoryFault;
@@ -55,25 +56,53 @@ impl From<SqlError> for StoreFault {
     }
 }
 
-impl From<NameFault> for StoreFault {
-    ghost from_gives = { λ f e. e ≡ of_name_fault f };
+impl From<RowsFault> for StoreFault {
+    ghost from_gives = { λ f e. e ≡ of_rows_fault f };
 
-    fn from(fault: NameFault) -> StoreFault {
+    fn from(fault: RowsFault) -> StoreFault {
         match fault {
-            NameFault::Memory => StoreFault::Memory,
-            NameFault::BadName | NameFault::BadPath => StoreFault::BadCatalogue,
+            RowsFault::Memory => StoreFault::Memory,
+            RowsFault::BadRows => StoreFault::BadCatalogue,
         }
     }
 }
 
-impl From<HistoryFault> for StoreFault {
+/// Why the rows of a catalogue were not read as a history.
+#[derive(Clone, Copy, Debug, Error)]
+pub enum RowsFault {
+    #[error("out of memory")]
+    Memory,
+    #[error("the version is not 2, or the rows form no history")]
+    BadRows,
+}
+
+impl From<AllocError> for RowsFault {
+    ghost from_gives = { λ _ e. e ≡ rows.Memory };
+
+    fn from(_e: AllocError) -> RowsFault {
+        RowsFault::Memory
+    }
+}
+
+impl From<NameFault> for RowsFault {
+    ghost from_gives = { λ f e. e ≡ of_name_fault f };
+
+    fn from(fault: NameFault) -> RowsFault {
+        match fault {
+            NameFault::Memory => RowsFault::Memory,
+            NameFault::BadName | NameFault::BadPath => RowsFault::BadRows,
+        }
+    }
+}
+
+impl From<HistoryFault> for RowsFault {
     ghost from_gives = { λ f e. e ≡ of_history_fault f };
 
-    fn from(fault: HistoryFault) -> StoreFault {
+    fn from(fault: HistoryFault) -> RowsFault {
         match fault {
-            HistoryFault::Memory => StoreFault::Memory,
+            HistoryFault::Memory => RowsFault::Memory,
             HistoryFault::DuplicateJob | HistoryFault::DuplicateSession | HistoryFault::BadRow => {
-                StoreFault::BadCatalogue
+                RowsFault::BadRows
             }
         }
     }

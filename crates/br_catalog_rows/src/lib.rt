@@ -9,12 +9,14 @@ mod encode;
 mod fault;
 mod laws;
 mod load;
+mod old_schema;
 mod schema;
 mod schema_shape;
 mod value;
 
 pub use encode::{cut, digits_of, high_half, low_half};
-pub use fault::StoreFault;
+pub use fault::{RowsFault, StoreFault};
 pub use laws::{file_is_whole, inserted_jobs_load, job_is_whole, rows_read_back, span_is_whole};
 pub use load::{CatalogueRows, history_of};
-pub use schema::{is_empty, is_moved, is_old, is_ours};
+pub use old_schema::{OldLayout, is_moved, old_layout, version_tree};
+pub use schema::{has_version, is_empty, is_ours};

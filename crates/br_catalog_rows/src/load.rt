@@ -8,13 +8,13 @@ ghost use Rattle.br_model.specs.Answer.{Answers, refuse_if};
 ghost use Rattle.br_model.specs.Job.{JobRow as Job};
 ghost use Rattle.sqlite.specs.Order.{column};
 ghost use Rattle.br_catalog_rows.specs.Load as load;
-ghost use Rattle.br_catalog_rows.specs.Fault.{cause};
+ghost use Rattle.br_catalog_rows.specs.Fault.{rows_cause};
 ghost use Rattle.br_catalog_rows.specs.Rows.{Rows};
 ghost use Rattle.br_catalog_rows.specs.Decode.{read_job, read_span, read_file};
 ghost use Rattle.br_catalog_rows.specs.Load.{read_all, by_number, read_rows, if_apart, read_loaded, read_history, group_of, has, Puts};
 
 use crate::decode::{file_of, job_of, span_of};
-use crate::fault::StoreFault;
+use crate::fault::RowsFault;
 use crate::value::{natural_at, small_at};
 use br_history::{FileRow, History, JobRow, JobRows};
 use br_session::Span;
@@ -23,31 +23,31 @@ use std::alloc::{AllocError, Global};
 use std::collections::BTreeMap;
 use std::marker::Model;
 
-/// Returns `BadCatalogue` unless a row shows the number 2.
+/// Returns `BadRows` unless a row shows the number 2.
 #[tactic(auto, unfolding(crate::specs::Load::check_first))]
-fn check_first(row: &Row) -> Result<(), StoreFault>
-    ensures { Answers (λ u. u) cause result (load.check_first (column row.now 0)) }
+fn check_first(row: &Row) -> Result<(), RowsFault>
+    ensures { Answers (λ u. u) rows_cause result (load.check_first (column row.now 0)) }
 {
     if natural_at(row, 0)? != 2 {
-        return Err(StoreFault::BadCatalogue);
+        return Err(RowsFault::BadRows);
     }
     Ok(())
 }
 
-/// Returns `BadCatalogue` unless there is one version, which is 2.
-fn check_version(rows: &[Row]) -> Result<(), StoreFault>
-    ensures { Answers (λ u. u) cause result (load.check_version rows.now) }
+/// Returns `BadRows` unless there is one version, which is 2.
+fn check_version(rows: &[Row]) -> Result<(), RowsFault>
+    ensures { Answers (λ u. u) rows_cause result (load.check_version rows.now) }
 {
     match rows {
         [row] => check_first(row),
-        _ => Err(StoreFault::BadCatalogue),
+        _ => Err(RowsFault::BadRows),
     }
 }
 
 /// Reads a job from each row.
 #[tactic(auto, unfolding(crate::specs::Load::read_all))]
-fn jobs_of(alloc: Global, rows: &[Row]) -> Result<Vec<JobRow>, StoreFault>
-    ensures { Answers (λ v. v.items) cause result (read_all read_job rows.now) }
+fn jobs_of(alloc: Global, rows: &[Row]) -> Result<Vec<JobRow>, RowsFault>
+    ensures { Answers (λ v. v.items) rows_cause result (read_all read_job rows.now) }
 {
     let mut jobs = Vec::new(alloc);
     for row in rows {
@@ -58,8 +58,8 @@ fn jobs_of(alloc: Global, rows: &[Row]) -> Result<Vec<JobRow>, StoreFault>
 
 /// Reads a span from each row.
 #[tactic(auto, unfolding(crate::specs::Load::read_all))]
-fn spans_of(alloc: Global, rows: &[&Row]) -> Result<Vec<Span>, StoreFault>
-    ensures { Answers (λ v. v.items) cause result (read_all read_span (map (λ r. r.now) rows.now)) }
+fn spans_of(alloc: Global, rows: &[&Row]) -> Result<Vec<Span>, RowsFault>
+    ensures { Answers (λ v. v.items) rows_cause result (read_all read_span (map (λ r. r.now) rows.now)) }
 {
     let mut spans = Vec::new(alloc);
     for row in rows {
@@ -70,8 +70,8 @@ fn spans_of(alloc: Global, rows: &[&Row]) -> Result<Vec<Span>, StoreFault>
 
 /// Reads a file from each row.
 #[tactic(auto, unfolding(crate::specs::Load::read_all))]
-fn files_of(alloc: Global, rows: &[&Row]) -> Result<Vec<FileRow>, StoreFault>
-    ensures { Answers (λ v. v.items) cause result (read_all read_file (map (λ r. r.now) rows.now)) }
+fn files_of(alloc: Global, rows: &[&Row]) -> Result<Vec<FileRow>, RowsFault>
+    ensures { Answers (λ v. v.items) rows_cause result (read_all read_file (map (λ r. r.now) rows.now)) }
 {
     let mut files = Vec::new(alloc);
     for row in rows {
@@ -92,30 +92,26 @@ fn places<'r>(alloc: Global, jobs: &[JobRow]) -> Result<BTreeMap<u32, Vec<&'r Ro
     Ok(places)
 }
 
-/// Appends a row to those of its job. `BadCatalogue` if there is no such job.
-fn put<'r>(
-    places: &mut BTreeMap<u32, Vec<&'r Row>>,
-    id: u32,
-    row: &'r Row,
-) -> Result<(), StoreFault>
-    ensures answers { Answers (λ u. u) cause result (refuse_if (not (has places.old id)) 47) }
+/// Appends a row to those of its job. `BadRows` if there is no such job.
+fn put<'r>(places: &mut BTreeMap<u32, Vec<&'r Row>>, id: u32, row: &'r Row) -> Result<(), RowsFault>
+    ensures answers { Answers (λ u. u) rows_cause result (refuse_if (not (has places.old id)) 47) }
     ensures puts { OnOk result (Puts places.old id row.now places.new) }
 {
     let Some(group) = places.get_mut(&id) else {
-        return Err(StoreFault::BadCatalogue);
+        return Err(RowsFault::BadRows);
     };
     group.push(row).map_err(AllocError::from)?;
     Ok(())
 }
 
-/// Returns the rows of each job in their order. `BadCatalogue` if a row belongs to none of these
+/// Returns the rows of each job in their order. `BadRows` if a row belongs to none of these
 /// jobs.
 fn by_job<'r>(
     alloc: Global,
     jobs: &[JobRow],
     rows: &'r [Row],
-) -> Result<BTreeMap<u32, Vec<&'r Row>>, StoreFault>
-    ensures { Answers group_of cause result (load.by_job jobs.now rows.now) }
+) -> Result<BTreeMap<u32, Vec<&'r Row>>, RowsFault>
+    ensures { Answers group_of rows_cause result (load.by_job jobs.now rows.now) }
 {
     let mut places = places(alloc, jobs)?;
     for row in rows {
@@ -130,8 +126,8 @@ fn spans_at(
     alloc: Global,
     places: &BTreeMap<u32, Vec<&Row>>,
     id: u32,
-) -> Result<Vec<Span>, StoreFault>
-    ensures { Answers (λ v. v.items) cause result (read_all read_span (group_of places.now id)) }
+) -> Result<Vec<Span>, RowsFault>
+    ensures { Answers (λ v. v.items) rows_cause result (read_all read_span (group_of places.now id)) }
 {
     match places.get(&id) {
         Some(rows) => spans_of(alloc, rows),
@@ -145,8 +141,8 @@ fn files_at(
     alloc: Global,
     places: &BTreeMap<u32, Vec<&Row>>,
     id: u32,
-) -> Result<Vec<FileRow>, StoreFault>
-    ensures { Answers (λ v. v.items) cause result (read_all read_file (group_of places.now id)) }
+) -> Result<Vec<FileRow>, RowsFault>
+    ensures { Answers (λ v. v.items) rows_cause result (read_all read_file (group_of places.now id)) }
 {
     match places.get(&id) {
         Some(rows) => files_of(alloc, rows),
@@ -169,8 +165,8 @@ fn rows_of(
     row: JobRow,
     spans: &BTreeMap<u32, Vec<&Row>>,
     files: &BTreeMap<u32, Vec<&Row>>,
-) -> Result<JobRows, StoreFault>
-    ensures { Answers (λ j. j) cause result (read_rows (group_of spans.now) (group_of files.now) row) }
+) -> Result<JobRows, RowsFault>
+    ensures { Answers (λ j. j) rows_cause result (read_rows (group_of spans.now) (group_of files.now) row) }
 {
     let id = row.id.get();
     let spans = spans_at(alloc, spans, id)?;
@@ -185,8 +181,8 @@ fn whole_jobs(
     jobs: Vec<JobRow>,
     spans: &BTreeMap<u32, Vec<&Row>>,
     files: &BTreeMap<u32, Vec<&Row>>,
-) -> Result<Vec<JobRows>, StoreFault>
-    ensures { Answers (λ v. v.items) cause result (read_all (read_rows (group_of spans.now) (group_of files.now)) jobs.items) }
+) -> Result<Vec<JobRows>, RowsFault>
+    ensures { Answers (λ v. v.items) rows_cause result (read_all (read_rows (group_of spans.now) (group_of files.now)) jobs.items) }
 {
     let mut whole = Vec::new(alloc);
     for job in jobs {
@@ -199,8 +195,8 @@ fn whole_jobs(
 
 /// Makes a history of these jobs, in their order.
 #[tactic(auto, unfolding(crate::specs::Load::if_apart))]
-fn joined(alloc: Global, jobs: Vec<JobRows>) -> Result<History, StoreFault>
-    ensures { Answers (λ h. h) cause result (if_apart jobs.items) }
+fn joined(alloc: Global, jobs: Vec<JobRows>) -> Result<History, RowsFault>
+    ensures { Answers (λ h. h) rows_cause result (if_apart jobs.items) }
 {
     let mut history = History::new(alloc);
     for job in jobs {
@@ -227,8 +223,8 @@ impl Model for CatalogueRows {
 
 /// Makes the history of the rows of jobs, spans and files.
 #[tactic(auto, unfolding(crate::specs::Load::read_loaded))]
-fn loaded(alloc: Global, jobs: &[Row], spans: &[Row], files: &[Row]) -> Result<History, StoreFault>
-    ensures { Answers (λ h. h) cause result (read_loaded jobs.now spans.now files.now) }
+fn loaded(alloc: Global, jobs: &[Row], spans: &[Row], files: &[Row]) -> Result<History, RowsFault>
+    ensures { Answers (λ h. h) rows_cause result (read_loaded jobs.now spans.now files.now) }
 {
     let jobs = jobs_of(alloc, jobs)?;
     let spans = by_job(alloc, &jobs, spans)?;
@@ -241,10 +237,10 @@ fn loaded(alloc: Global, jobs: &[Row], spans: &[Row], files: &[Row]) -> Result<H
 ///
 /// # Errors
 ///
-/// `BadCatalogue` if the version is not 2 or the rows form no history.
+/// `BadRows` if the version is not 2 or the rows form no history.
 #[tactic(auto, unfolding(crate::specs::Load::read_history))]
-pub fn history_of(alloc: Global, rows: &CatalogueRows) -> Result<History, StoreFault>
-    ensures { Answers (λ h. h) cause result (read_history rows.now) }
+pub fn history_of(alloc: Global, rows: &CatalogueRows) -> Result<History, RowsFault>
+    ensures { Answers (λ h. h) rows_cause result (read_history rows.now) }
 {
     check_version(&rows.versions)?;
     loaded(alloc, &rows.jobs, &rows.spans, &rows.files)

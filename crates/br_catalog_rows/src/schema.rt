@@ -1,23 +1,19 @@
-//! Tests whether a schema is the catalogue's, or that of version 1.
+//! Tests whether a schema is the catalogue's.
 
 ghost use Rattle.std.specs.Prelude.{◌≡◌, ◌↔◌, IsTrue, [], ◌∷◌, ◌++◌, ◌^◌, ◌==◌, nat_le, false, Some, None};
 ghost use Rattle.std.specs.Prelude.{codes, drop, length, map, slice_get};
 ghost use Rattle.std.specs.List.{AllByRecursion, position_from};
 ghost use Rattle.sqlite_schema.specs.Names.{column_named};
 ghost use Rattle.br_catalog_rows.specs.SchemaShapes.{Begins, Fits, HasNoAction, HasShape, IsFound, IsReadable, any_column, bare, column_of};
-ghost use Rattle.br_catalog_rows.specs.SchemaShapes.{index_of, key_of, orders_of};
-ghost use Rattle.br_catalog_rows.specs.SchemaShapes.{own_of, placed, primary_of, reference_of, simple, table_of, uniques_of};
-ghost use Rattle.br_catalog_rows.specs.TreePlaces.{Layout, moved_layout};
-ghost use Rattle.br_catalog_rows.specs.KnownSchemas.{HasAll, IsStoreSchema, Owns, with_own};
-ghost use Rattle.br_catalog_rows.specs.Tables.{no_schema, only_tables};
-ghost use Rattle.br_catalog_rows.specs.OldTables.{old_schema};
+ghost use Rattle.br_catalog_rows.specs.SchemaShapes.{key_of, orders_of};
+ghost use Rattle.br_catalog_rows.specs.SchemaShapes.{own_of, primary_of, reference_of, simple, table_of, uniques_of};
+ghost use Rattle.br_catalog_rows.specs.TreePlaces.{Layout};
+ghost use Rattle.br_catalog_rows.specs.KnownSchemas.{HasAll, HasVersionTable, IsStoreSchema, Owns, with_own};
+ghost use Rattle.br_catalog_rows.specs.Tables.{no_schema};
 
-use crate::schema_shape::{
-    ColumnShape, IndexShape, MOVED_INDEXES, MOVED_TREES, OLD_INDEXES, OLD_TABLES, OLD_TREES,
-    ReferenceShape, TABLES, TableShape,
-};
+use crate::schema_shape::{ColumnShape, ReferenceShape, TABLES, TableShape, VERSION};
 use sqlite_schema::code::Terms;
-use sqlite_schema::schema::{Action, Column, Index, Kind, Reference, Schema, Stamps, Table};
+use sqlite_schema::schema::{Action, Column, Kind, Reference, Schema, Stamps, Table};
 use sqlite_value::keys::{Collation, Order};
 use sqlite_value::value::{Bytes, Value};
 
@@ -190,53 +186,10 @@ fn is_table(table: &Table, shape: &TableShape) -> bool
 }
 
 /// Returns whether a table has this shape, and is in this tree.
-fn is_placed(table: &Table, shape: &TableShape, tree: u32) -> bool
+pub(crate) fn is_placed(table: &Table, shape: &TableShape, tree: u32) -> bool
     ensures { IsTrue result ↔ (table.now ≡ table_of shape.now tree) }
 {
     table.tree == tree && is_table(table, shape)
-}
-
-/// Returns whether tables have these shapes, and are in these trees.
-fn are_tables(tables: &[Table], shapes: &[TableShape], trees: &[u32]) -> bool
-    ensures { IsTrue result ↔ (tables.now ≡ placed shapes.now trees.now) }
-{
-    match shapes {
-        [shape, others @ ..] => match trees {
-            [tree, later @ ..] => match tables {
-                [table, more @ ..] => {
-                    is_placed(table, shape, *tree) && are_tables(more, others, later)
-                }
-                _ => false,
-            },
-            _ => tables.is_empty(),
-        },
-        _ => tables.is_empty(),
-    }
-}
-
-/// Returns whether an index has this shape.
-fn is_index(index: &Index, shape: &IndexShape) -> bool
-    ensures { IsTrue result ↔ (index.now ≡ index_of shape.now) }
-{
-    index.name.as_slice() == shape.name
-        && index.tree == shape.tree
-        && index.table == shape.table
-        && are_places(index.columns.as_slice(), shape.columns)
-        && index.order.digits == 0
-        && index.is_unique
-}
-
-/// Returns whether indexes have these shapes.
-fn are_indexes(indexes: &[Index], shapes: &[IndexShape]) -> bool
-    ensures { IsTrue result ↔ (indexes.now ≡ map index_of shapes.now) }
-{
-    match indexes {
-        [] => shapes.is_empty(),
-        [index, more @ ..] => match shapes {
-            [shape, others @ ..] => is_index(index, shape) && are_indexes(more, others),
-            _ => false,
-        },
-    }
 }
 
 /// Returns whether columns begin with these shapes.
@@ -317,7 +270,7 @@ fn begins_as(table: &Table, shape: &TableShape) -> bool
 }
 
 /// Returns whether a tree is one of stored tables.
-fn is_stored(tree: u32) -> bool
+pub(crate) fn is_stored(tree: u32) -> bool
     ensures { IsTrue result ↔ (nat_le (2 ^ 31) tree ≡ false) }
 {
     tree < 1 << 31
@@ -356,7 +309,7 @@ fn is_readable(table: &Table) -> bool
 }
 
 /// Returns whether a table at a place of a schema is found by its tree, and can be read by its names.
-fn is_found(schema: &Schema, place: usize, table: &Table) -> bool
+pub(crate) fn is_found(schema: &Schema, place: usize, table: &Table) -> bool
     ensures { IsTrue result ↔ IsFound schema.now place table.now }
 {
     is_first(schema, table.tree, place) && is_readable(table)
@@ -409,26 +362,13 @@ pub fn is_ours(schema: &Schema) -> bool
     have_shapes(schema, &TABLES)
 }
 
-/// Returns whether a schema has the tables of version 1 in the trees in which they are made, the
-/// indexes of their keys, and nothing else.
-pub fn is_old(schema: &Schema) -> bool
-    ensures old { IsTrue result → schema.now ≡ old_schema }
-    ensures known { schema.now ≡ old_schema → IsTrue result }
+/// Returns whether a schema has the table of the version, in any tree and whatever is beside it. It
+/// may have a user's columns after that of the version.
+pub fn has_version(schema: &Schema) -> bool
+    ensures version { IsTrue result → HasVersionTable schema.now }
+    ensures known { HasVersionTable schema.now → IsTrue result }
 {
-    are_tables(schema.tables.as_slice(), &OLD_TABLES, &OLD_TREES)
-        && are_indexes(schema.indexes.as_slice(), &OLD_INDEXES)
-        && schema.views.is_empty()
-}
-
-/// Returns whether a schema has the catalogue's tables in the trees where a migration makes them, the
-/// indexes of their keys, and nothing else.
-pub fn is_moved(schema: &Schema) -> bool
-    ensures moved { IsTrue result → schema.now ≡ only_tables moved_layout }
-    ensures known { schema.now ≡ only_tables moved_layout → IsTrue result }
-{
-    are_tables(schema.tables.as_slice(), &TABLES, &MOVED_TREES)
-        && are_indexes(schema.indexes.as_slice(), &MOVED_INDEXES)
-        && schema.views.is_empty()
+    has_shape(schema, &VERSION)
 }
 
 /// Returns whether a schema has no table, no index and no view.

@@ -1,4 +1,4 @@
-//! The catalogue's tables and indexes as data.
+//! The catalogue's tables as data.
 
 use ColumnShape::{Any, Integer, Key, Text};
 
@@ -29,15 +29,6 @@ pub(crate) struct TableShape {
     pub(crate) columns: &'static [ColumnShape],
     pub(crate) unique: Option<&'static [usize]>,
     pub(crate) references: &'static [ReferenceShape],
-}
-
-/// The index of a table whose rows differ in the columns at these places.
-#[derive(Clone, Copy)]
-pub(crate) struct IndexShape {
-    pub(crate) name: &'static [u8],
-    pub(crate) tree: u32,
-    pub(crate) table: u32,
-    pub(crate) columns: &'static [usize],
 }
 
 const VERSION_COLUMNS: [ColumnShape; 1] = [Integer(b"VersionId")];
@@ -124,7 +115,7 @@ const FILE_REFERENCES: [ReferenceShape; 2] = [
     },
 ];
 
-const VERSION: TableShape = TableShape {
+pub(crate) const VERSION: TableShape = TableShape {
     name: b"Version",
     is_keyed: false,
     columns: &VERSION_COLUMNS,
@@ -242,82 +233,4 @@ const OLD_FILE: TableShape = TableShape {
 /// The tables of version 1.
 pub(crate) const OLD_TABLES: [TableShape; 9] = [
     VERSION, CLIENT, FILESET, MEDIA, PATH, FILENAME, JOB, JOB_MEDIA, OLD_FILE,
-];
-
-/// The trees of the tables of version 1.
-pub(crate) const OLD_TREES: [u32; 9] = [0, 1, 3, 5, 7, 9, 11, 13, 15];
-
-// The indexes of the keys of version 1's tables.
-
-const CLIENT_INDEX: IndexShape = IndexShape {
-    name: b"sqlite_autoindex_Client_1",
-    tree: 2,
-    table: 1,
-    columns: &[2],
-};
-
-const FILESET_INDEX: IndexShape = IndexShape {
-    name: b"sqlite_autoindex_FileSet_1",
-    tree: 4,
-    table: 3,
-    columns: &[2],
-};
-
-const MEDIA_INDEX: IndexShape = IndexShape {
-    name: b"sqlite_autoindex_Media_1",
-    tree: 6,
-    table: 5,
-    columns: &[2],
-};
-
-const PATH_INDEX: IndexShape = IndexShape {
-    name: b"sqlite_autoindex_Path_1",
-    tree: 8,
-    table: 7,
-    columns: &[2],
-};
-
-const FILENAME_INDEX: IndexShape = IndexShape {
-    name: b"sqlite_autoindex_Filename_1",
-    tree: 10,
-    table: 9,
-    columns: &[2],
-};
-
-const JOB_INDEX: IndexShape = IndexShape {
-    name: b"sqlite_autoindex_Job_1",
-    tree: 12,
-    table: 11,
-    columns: &[8, 9],
-};
-
-const JOB_MEDIA_INDEX: IndexShape = IndexShape {
-    name: b"sqlite_autoindex_JobMedia_1",
-    tree: 14,
-    table: 13,
-    columns: &[2, 10],
-};
-
-/// The indexes of the tables of version 1.
-pub(crate) const OLD_INDEXES: [IndexShape; 7] = [
-    CLIENT_INDEX,
-    FILESET_INDEX,
-    MEDIA_INDEX,
-    PATH_INDEX,
-    FILENAME_INDEX,
-    JOB_INDEX,
-    JOB_MEDIA_INDEX,
-];
-
-/// The trees of the catalogue's tables where those of version 1 were before.
-pub(crate) const MOVED_TREES: [u32; 8] = [0, 1, 3, 5, 7, 11, 13, 15];
-
-/// The indexes of the catalogue's tables where those of version 1 were before.
-pub(crate) const MOVED_INDEXES: [IndexShape; 6] = [
-    CLIENT_INDEX,
-    FILESET_INDEX,
-    MEDIA_INDEX,
-    PATH_INDEX,
-    JOB_INDEX,
-    JOB_MEDIA_INDEX,
 ];

@@ -11,7 +11,12 @@ use Rattle.sqlite.specs.Tree.{Trees, rowid, put_row}
 use Rattle.sqlite.specs.View.{IsShaped, is_int}
 use Rattle.sqlite_trees.specs.declared.store.Shape.TheVariants.{Table}
 use Rattle.sqlite_value.proofs.OrderLemmas.{value_cmp-Int, value_cmp_total}
-use Rattle.sqlite.specs.State.{State, Survives}
+use Rattle.sqlite.specs.Effect.{Database}
+use Rattle.sqlite.specs.State.{HasCleanDisk, State, Survives}
+use Rattle.br_model.specs.Job.{JobRows}
+use Rattle.br_catalog_rows.specs.Inserted.{Adds}
+use Rattle.br_store.specs.Calls.{HasAdded}
+use Rattle.br_store.specs.Held.{HasTables, rows_in}
 use Rattle.sqlite.proofs.StateLemmas.{survives_then}
 use Rattle.sqlite_rules.specs.Lists.{Has}
 
@@ -58,3 +63,11 @@ survives_itself s P = record {
 
 pub survives_both : (a b c : State) → Survives a b (λ _. ⊥) → Survives b c (λ _. ⊥) → Survives a c (λ _. ⊥)
 survives_both a b c = survives_then a b c _ _ (λ _. ⊥) (λ _ db none. none) (λ _ db none. none)
+
+-- a commit after calls that committed nothing
+pub commits_added : (job : JobRows) (before : Database) (a b c : State) → Survives a b (λ _. ⊥) → Survives b c (λ db. db ≡ b.now.trees)
+    → (HasCleanDisk b → HasTables b.now × Adds job (rows_in before.trees) (rows_in b.now.trees)) → Survives a c (HasAdded job before)
+commits_added job before a b c one two added =
+    survives_then a b c (λ _. ⊥) (λ db. db ≡ b.now.trees) (HasAdded job before) (λ clean db none. absurd none) (λ clean db now.
+    let it = added (omega (arith, clean, two.clean)) in
+    (b.now, it.0, it.1, now)) one two

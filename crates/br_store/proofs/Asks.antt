@@ -43,9 +43,9 @@ select_spans = codes "SELECT JobMedia.JobId, Media.VolumeName, JobMedia.FirstInd
 abbrev pub select_files : List ℕ
 select_files = codes "SELECT File.JobId, File.FileIndex, Path.Path, File.Filename, File.LStat, File.MD5 FROM File JOIN Path ON Path.PathId = File.PathId ORDER BY File.FileId"
 
-abbrev pub versions_query : Layout → Query
-versions_query l = record {
-  from = inner l.version end;
+abbrev pub versions_query : ℕ → Query
+versions_query tree = record {
+  from = inner tree end;
   filter = [];
   group = None;
   project = col 1 1 ∷ [];

@@ -8,7 +8,8 @@ use Rattle.sqlite.specs.Effect.{Database, IsDatabase}
 use Rattle.sqlite_trees.specs.Objects.{catalog_tree, number_in}
 use Rattle.sqlite_catalog.specs.Listing.{IsTableRow, is_table_row}
 use Rattle.br_catalog_rows.specs.TreePlaces.{Layout}
-use Rattle.br_catalog_rows.specs.KnownSchemas.{HasAll, Owns, Stands}
+use Rattle.br_catalog_rows.specs.Tables.{version}
+use Rattle.br_catalog_rows.specs.KnownSchemas.{HasAll, Own, Owns, Stands, with_own}
 use Rattle.std.proofs.lemmas.Slice.Eq.{bytes_eq-Decides}
 use Rattle.sqlite.specs.Schema.{Schema}
 use Rattle.sqlite_schema.specs.Names.{same_name}
@@ -90,7 +91,7 @@ called schema t s self =
     stricter (λ (u : Table). same_name u.name t.name) (is_called t.name) schema.tables t
     (λ u same. ap (λ (name : List ℕ). same_name name t.name) ((bytes_eq-Decides u.name t.name).0 same) ∙ self) ((bytes_eq-Decides t.name t.name).1 refl) (by_name schema t s)
 
-tree_at : (schema : Schema) (t : Table) → Stands schema t → same_name t.name t.name ≡ true → tree_in (find (is_called t.name) schema.tables) ≡ t.tree
+pub tree_at : (schema : Schema) (t : Table) → Stands schema t → same_name t.name t.name ≡ true → tree_in (find (is_called t.name) schema.tables) ≡ t.tree
 tree_at schema t s self = ap tree_in (called schema t s self)
 
 among : (schema : Schema) (l : Layout) (o : Owns) → HasAll schema l o → layout_among schema.tables ≡ l
@@ -101,6 +102,11 @@ among schema l o has =
     ∙ ap₂ (λ f m. record a { version = l.version; client = l.client; fileset = f; media = m }) (tree_at schema _ has.fileset refl) (tree_at schema _ has.media refl)
     ∙ ap₂ (λ p j. record a { version = l.version; client = l.client; fileset = l.fileset; media = l.media; path = p; job = j }) (tree_at schema _ has.path refl) (tree_at schema _ has.job refl)
     ∙ ap₂ (λ s f. record l { job_media = s; file = f }) (tree_at schema _ has.job_media refl) (tree_at schema _ has.file refl)
+
+-- the table of the version of a sound database is in the tree in which its schema has it
+pub version_is : (tree : ℕ) (own : Own) (db : Database) → Stands db.schema (with_own (version tree) own) → IsDatabase db → tree_named db.trees (codes "Version") ≡ tree
+unfolding same_name
+version_is tree own db table sound = tree_is db.trees db.schema.tables (codes "Version") sound.lists.listed.tables ∙ tree_at db.schema _ table refl
 
 -- the tables of a sound database are in the trees in which its schema has them
 pub layout_is : (l : Layout) (o : Owns) (db : Database) → HasAll db.schema l o → IsDatabase db → layout_in db.trees ≡ l

@@ -1,5 +1,5 @@
 -- The rows that the joined queries show.
-use Rattle.std.proofs.Common.{◌≡◌, ℕ, List, [], ◌∷◌, ◌++◌, Bool, true, false, ◌&&◌, ◌||◌, cond, map, find, unwrap_or, Some, Less, Equal, refl, sym, ap, ap₂, subst, subst₂, ◌∙◌}
+use Rattle.std.proofs.Common.{◌≡◌, ℕ, List, [], ◌∷◌, ◌++◌, Bool, true, false, ◌&&◌, ◌||◌, codes, cond, map, find, unwrap_or, Result, Some, Less, Equal, refl, sym, ap, ap₂, subst, subst₂, ◌∙◌}
 use Rattle.std.specs.List.{AllByRecursion, list_any, flat_map}
 use Rattle.std.specs.Ordering.{ordering_then}
 use Rattle.std.proofs.lemmas.Cmp.{alike_right, on_total}
@@ -14,9 +14,13 @@ use Rattle.sqlite_value.proofs.OrderLemmas.{value_cmp_total}
 use Rattle.sqlite_sql.proofs.QueryLemmas.{key_cmp_total}
 use Rattle.sqlite_keyed.proofs.SortLemmas.{sorted_unique}
 use Rattle.sqlite_rules.proofs.ListLemmas.{all_has, all_from}
+use Rattle.br_model.specs.Answer.{IsRefusal}
+use Rattle.br_catalog_rows.specs.Fault.{cause, of_rows_fault, rows_cause}
+use Rattle.br_catalog_rows.specs.declared.fault.RowsFault.{RowsFault}
+use Rattle.br_catalog_rows.specs.declared.fault.RowsFault.TheVariants.{Memory, BadRows}
 use Rattle.br_catalog_rows.specs.TreePlaces.{Layout}
 use Rattle.br_catalog_rows.specs.Rows.{Rows}
-use Rattle.br_store.specs.Held.{HasTables, is_named, named, layout_in, rows_at, rows_in, job_shown, span_shown, file_shown}
+use Rattle.br_store.specs.Held.{HasTables, HasVersions, is_named, named, layout_in, rows_at, rows_in, tree_named, versions_in, job_shown, span_shown, file_shown}
 use Rattle.br_store.proofs.Values.{tied}
 use Rattle.br_store.proofs.Joined.{Knows, are_known}
 use Rattle.br_store.proofs.Writes.{four}
@@ -107,7 +111,6 @@ rows_over l trees =
 
 -- what the tables of a catalogue are, as a query reads them
 record AreRead (l : Layout) (trees : Trees) : Type 0 where
-  versions : IsTable (trees l.version)
   clients : IsTable (trees l.client)
   filesets : IsTable (trees l.fileset)
   media : IsTable (trees l.media)
@@ -128,7 +131,6 @@ are_read db tables =
     let spans = λ (m rows : List Row). AllByRecursion (λ row. Knows m (column row 3)) rows in
     let files = λ (p rows : List Row). AllByRecursion (λ row. Knows p (column row 4)) rows in
     record {
-      versions = subst IsTable (same l.version) tables.shaped.0.0;
       clients = subst IsTable (same l.client) tables.shaped.1.0.0;
       filesets = subst IsTable (same l.fileset) tables.shaped.1.1.0.0;
       media = subst IsTable (same l.media) tables.shaped.1.1.1.0.0;
@@ -153,24 +155,26 @@ file_env l trees r = [] ∷ r ∷ named (trees l.path) (column r 4) ∷ []
 abbrev version_env : Row → Env
 version_env r = [] ∷ r ∷ []
 
-versions_read : (l : Layout) (trees : Trees) (rows : List Row) → AreRead l trees → IsAnswer (versions_query l) trees [] rows → rows ≡ (rows_at l trees).versions
-versions_read l trees rows are a =
-    let q = versions_query l in
-    let all = trees l.version in
+-- the rows of the table of the version, as a query reads them
+versions_read : (tree : ℕ) (trees : Trees) (rows : List Row) → IsTable (trees tree) → IsAnswer (versions_query tree) trees [] rows → rows ≡ map (λ (r : Row). column r 1 ∷ []) (trees tree)
+versions_read tree trees rows rising a =
+    let q = versions_query tree in
+    let all = trees tree in
     let out = λ (r : Row). output q (version_env r) in
     let staged : a.staged ≡ map (version_env) all =
     a.grouped ∙ singles _ (version_env) all (all_from _ all (λ r in_it. refl)) in
     let kept : a.kept ≡ map out all = a.distinct ∙ ap (map (output q)) staged ∙ map-map (output q) (version_env) all in
     let up : IsAscending (λ (x y : Output). output_cmp q x y ≡ Less) a.kept =
     subst (IsAscending (λ (x y : Output). output_cmp q x y ≡ Less)) (sym kept)
-    (ascend _ out all (weaker _ _ (λ x y below. ap (λ o. ordering_then o Equal) below) all are.versions)) in
+    (ascend _ out all (weaker _ _ (λ x y below. ap (λ o. ordering_then o Equal) below) all rising)) in
     let ordered : a.ordered ≡ a.kept = sorted_unique (output_cmp q) (on_total (λ (o : Output). o.0) (key_cmp_total (map (λ k. k.1) q.order) 0)) a.kept a.ordered up a.same a.sorted in
     a.shown ∙ ap (map (λ (o : Output). o.1)) (ordered ∙ kept) ∙ map-map (λ (o : Output). o.1) out all
 
-pub versions_shown : (db : Database) (rows : List Row) → HasTables db → IsAnswer (versions_query (layout_in db.trees)) (overlay db.trees []) [] rows → rows ≡ (rows_in db.trees).versions
-versions_shown db rows tables a =
-    let l = layout_in db.trees in
-    versions_read l (overlay db.trees []) rows (are_read db tables) a ∙ ap (λ (r : Rows). r.versions) (rows_over l db.trees)
+pub versions_shown : (db : Database) (rows : List Row) → HasVersions db → IsAnswer (versions_query (tree_named db.trees (codes "Version"))) (overlay db.trees []) [] rows → rows ≡ versions_in db.trees
+versions_shown db rows has a =
+    let tree = tree_named db.trees (codes "Version") in
+    let same = not_over db.trees tree in
+    versions_read tree (overlay db.trees []) rows (subst IsTable (sym same) has.shaped.0) a ∙ ap (map (λ (r : Row). column r 1 ∷ [])) same
 
 jobs_read : (l : Layout) (trees : Trees) (rows : List Row) → AreRead l trees → IsAnswer (jobs_query l) trees [] rows → rows ≡ (rows_at l trees).jobs
 jobs_read l trees rows are a =
@@ -228,3 +232,8 @@ pub files_shown : (db : Database) (rows : List Row) → HasTables db → IsAnswe
 files_shown db rows tables a =
     let l = layout_in db.trees in
     files_read l (overlay db.trees []) rows (are_read db tables) a ∙ ap (λ (r : Rows). r.files) (rows_over l db.trees)
+
+-- what the rows refuse, their catalogue refuses
+pub refused_by_rows : {Y : Type 0} (f : RowsFault) (r : Result Y ℕ) → IsRefusal (rows_cause f) r → IsRefusal (cause (of_rows_fault f)) r
+refused_by_rows Memory r is = tt
+refused_by_rows BadRows r is = is

@@ -11,13 +11,14 @@ use Rattle.sqlite_trees.specs.declared.store.Shape.TheVariants.{Table}
 use Rattle.sqlite_catalog.specs.Listing.{AreListed, IsTableRow, is_table_row}
 use Rattle.sqlite_catalog.proofs.LayoutLemmas.{laid_out, objects_rise}
 use Rattle.br_catalog_rows.specs.TreePlaces.{Layout}
-use Rattle.br_catalog_rows.specs.Tables.{no_schema, tables_at}
-use Rattle.br_catalog_rows.specs.KnownSchemas.{IsStoreSchema}
-use Rattle.br_store.specs.Held.{HasTables}
+use Rattle.br_catalog_rows.specs.Tables.{no_schema, tables_at, version}
+use Rattle.br_catalog_rows.specs.KnownSchemas.{HasVersionTable, IsStoreSchema, Stands, with_own}
+use Rattle.sqlite_rules.proofs.ListLemmas.{all_has}
+use Rattle.br_store.specs.Held.{HasTables, HasVersions}
 use Rattle.br_store.specs.Made.{Finds, IsMade}
 use Rattle.br_store.specs.Calls.{AreRising}
-use Rattle.br_store.proofs.Inserts.{all_ours}
-use Rattle.br_store.proofs.Layouts.{has_here, layout_is}
+use Rattle.br_store.proofs.Inserts.{all_ours, has_table}
+use Rattle.br_store.proofs.Layouts.{has_here, layout_is, version_is}
 
 shaped : (v : View) (trees : Trees) → trees ≡ v.trees → IsOrdered v.shape v.trees → (tables : List Declared) → AllByRecursion (λ (t : Declared). v.shape t.tree ≡ Table) tables
     → AllByRecursion (λ (t : Declared). IsShaped Table (trees t.tree)) tables
@@ -45,6 +46,21 @@ has_tables db schema sound rising =
       sound = sound;
       shaped = subst (λ (m : Layout). AllByRecursion (λ (t : Declared). IsShaped Table (db.trees t.tree)) (tables_at m)) now all;
     }
+
+-- a sound database with the table of the version, if its rows ascend
+pub has_versions : (db : Database) → HasVersionTable db.schema → IsDatabase db → AreRising db → HasVersions db
+has_versions db h sound rising =
+    let t = with_own (version h.0) h.1 in
+    let now = sym (version_is h.0 h.1 db h.2 sound) in
+    record {
+      own = h.1;
+      table = subst (λ (n : ℕ). Stands db.schema (with_own (version n) h.1)) now h.2;
+      shaped = subst (λ (n : ℕ). IsShaped Table (db.trees n)) now (all_has (λ (u : Declared). IsShaped Table (db.trees u.tree)) db.schema.tables t rising (has_table db.schema t h.2));
+    }
+
+-- a catalogue has it
+pub of_tables : (db : Database) → HasTables db → HasVersions db
+of_tables db tables = record { own = tables.own.version; table = tables.schema.version; shaped = tables.shaped.0 }
 
 -- a database that lists no table has none of these
 none_zipped : {X Y : Type 0} (R : X → Y → Type 0) (xs : List X) (ys : List Y) (at : ℕ) (y : Y) → AllZip R xs [] → AllZip R xs ys → slice_get ys at ≡ Some y → ⊥

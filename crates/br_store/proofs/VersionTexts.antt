@@ -1,4 +1,4 @@
--- What the query over the versions means, in any schema with the catalogue's tables.
+-- What the query over the versions means, in any schema with the table of the version.
 use Rattle.std.proofs.Common.{arith, ◌≡◌, ◌-◌, ℕ, true, false, nat_lt, nat_le, ◌^◌, pos, negsuc, List, [], ◌∷◌, map, codes, Option, None, Some, Ok, refl, ◌∙◌}
 use Rattle.std.specs.List.{AllByRecursion}
 use Rattle.sqlite.specs.declared.types.Value.TheVariants.{Int}
@@ -31,9 +31,8 @@ use Rattle.sqlite_resolve.specs.Order.{sorts}
 use Rattle.sqlite_resolve.specs.Expr.{lower}
 use Rattle.sqlite_resolve.specs.Select.{ungrouped}
 use Rattle.sqlite_tied.specs.Compute.{everything}
-use Rattle.br_catalog_rows.specs.TreePlaces.{Layout}
 use Rattle.br_catalog_rows.specs.Tables.{column, version}
-use Rattle.br_catalog_rows.specs.KnownSchemas.{HasAll, Owns, with_own}
+use Rattle.br_catalog_rows.specs.KnownSchemas.{Own, Stands, with_own}
 use Rattle.br_store.proofs.Asks.{Shows, shows_from, versions_query, select_versions, version_names}
 use Rattle.br_store.proofs.Compiled.{pick}
 use Rattle.br_store.proofs.Syntax.{core_of, select_of, order_by, from_table, out_from}
@@ -51,25 +50,25 @@ use Rattle.sqlite_resolve.specs.Scope.{hit, is_among, is_rowid, only, rowid_in}
 stored_below : (tree : ℕ) → nat_le (2 ^ 31) tree ≡ false → nat_lt tree (2 ^ 31) ≡ true
 stored_below tree h = grind arith
 
-module _ (schema : Schema) (l : Layout) (o : Owns) (has : HasAll schema l o) where
+module _ (schema : Schema) (tree : ℕ) (own : Own) (table : Stands schema (with_own (version tree) own)) where
   abbrev here : Table
-  here = with_own (version l.version) o.version
+  here = with_own (version tree) own
 
   abbrev bound_all : List Bound
-  bound_all = bind (codes "Version") has.version.place 1 ∷ []
+  bound_all = bind (codes "Version") table.place 1 ∷ []
 
   abbrev all_here : List Table
   all_here = here ∷ []
 
   abbrev asked : List Asked
-  asked = record (ask (bind (codes "Version") has.version.place 1) here (codes "VersionId") (codes "VersionId") 0 (column (codes "VersionId") Integer)) { table = None } ∷ []
+  asked = record (ask (bind (codes "Version") table.place 1) here (codes "VersionId") (codes "VersionId") 0 (column (codes "VersionId") Integer)) { table = None } ∷ []
 
   are_at : AreAt schema bound_all all_here
-  are_at = (has.version.is, tt)
+  are_at = (table.is, tt)
 
   sees_all : AllByRecursion (Sees schema bound_all all_here) asked
   unfolding same_name is_among
-  sees_all = (record { only = refl; got = has.version.is; has = refl }, tt)
+  sees_all = (record { only = refl; got = table.is; has = refl }, tt)
 
   abbrev shown_all : List Shown
   shown_all = map asks asked
@@ -112,24 +111,24 @@ module _ (schema : Schema) (l : Layout) (o : Owns) (has : HasAll schema l o) whe
 
   binds_all : bounds schema from_all (st 1 max_budget nothing) ≡ Ok (bound_all, st 2 max_budget nothing)
   unfolding bounds
-  binds_all = rw (bound_is schema (codes "Version") has.version.place 1 max_budget nothing has.version.named refl) refl
+  binds_all = rw (bound_is schema (codes "Version") table.place 1 max_budget nothing table.named refl) refl
 
   joins_all : (shown : List Output) (k : Carried) → joins lower (over schema bound_all shown false true) bound_all from_all (st 2 (max_budget - 1) k)
-      ≡ Ok (record { steps = Inner l.version ∷ []; filter = [] }, st 2 (max_budget - 1) k)
+      ≡ Ok (record { steps = Inner tree ∷ []; filter = [] }, st 2 (max_budget - 1) k)
   unfolding joins
   joins_all shown k =
       rw (
         out_from (codes "Version"),
-        inner_is (over schema bound_all shown false true) bound_all (record { steps = []; filter = [] }) (codes "Version") (codes "Version") has.version.place 1 here (st 2 (max_budget - 1) k) has.version.is,
+        inner_is (over schema bound_all shown false true) bound_all (record { steps = []; filter = [] }) (codes "Version") (codes "Version") table.place 1 here (st 2 (max_budget - 1) k) table.is,
       ) refl
 
   no_column : only_in None (codes "rowid") None bound_all all_here ≡ Ok None
   unfolding is_among
-  no_column = rw (has.version.numbered refl) refl
+  no_column = rw (table.numbered refl) refl
 
-  by_number : only schema None (codes "rowid") true bound_all ≡ Ok (Some (Rowid 1 has.version.place))
+  by_number : only schema None (codes "rowid") true bound_all ≡ Ok (Some (Rowid 1 table.place))
   unfolding only hit rowid_in is_among
-  by_number = rw (has.version.is, stored_below l.version has.version.stored) refl
+  by_number = rw (table.is, stored_below tree table.stored) refl
 
   is_number : is_rowid (codes "rowid") ≡ true
   unfolding is_rowid same_name
@@ -141,7 +140,7 @@ module _ (schema : Schema) (l : Layout) (o : Owns) (has : HasAll schema l o) whe
   sorts_all : (k : Carried) → sorts lower (over schema bound_all (map output asked) false true) (map output asked) order (st 2 (max_budget - 1) k) ≡ Ok ((col 1 0, ascending Binary) ∷ [], st 2 (max_budget - 2) nothing)
   unfolding sorts alone
   sorts_all k =
-      rw (rowid_sorted schema bound_all (map output asked) false [] (codes "rowid") 1 has.version.place 2 (max_budget - 1) k
+      rw (rowid_sorted schema bound_all (map output asked) false [] (codes "rowid") 1 table.place 2 (max_budget - 1) k
       (only_is schema None (codes "rowid") bound_all all_here are_at ∙ no_column) is_number by_number refl no_alias refl) refl
 
   tests_all : (k : Carried) → tests lower (over schema bound_all (map output asked) false true) [] None (st 2 (max_budget - 1) k) ≡ Ok ([], st 2 (max_budget - 1) k)
@@ -150,7 +149,7 @@ module _ (schema : Schema) (l : Layout) (o : Owns) (has : HasAll schema l o) whe
 
   abbrev draft : Draft
   draft = record {
-    from = inner l.version end;
+    from = inner tree end;
     filter = [];
     group = None;
     project = col 1 1 ∷ [];
@@ -168,14 +167,14 @@ module _ (schema : Schema) (l : Layout) (o : Owns) (has : HasAll schema l o) whe
   unfolding ungrouped
   means =
       let last = last_after nothing asked in
-      answer_is schema select core from_all None order bound_all all_here asked (Inner l.version ∷ []) [] [] ((col 1 0, ascending Binary) ∷ [])
+      answer_is schema select core from_all None order bound_all all_here asked (Inner tree ∷ []) [] [] ((col 1 0, ascending Binary) ∷ [])
       2 (max_budget - 1) (max_budget - 1) (max_budget - 2) last last nothing select_opens core_opens are_stored binds_all are_at sees_all
       (refl, tt) (joins_all (map output asked) last) (tests_all last) (sorts_all last)
 
-  is_typed : program schema [] draft ≡ Ok (record { lets = []; body = versions_query l })
+  is_typed : program schema [] draft ≡ Ok (record { lets = []; body = versions_query tree })
   unfolding program
-  is_typed = rw (has.version.stored, by_tree schema here has.version) refl
+  is_typed = rw (table.stored, by_tree schema here table) refl
 
-  pub select_versions_is : Shows schema select_versions (versions_query l) version_names
-  select_versions_is = shows_from schema select_versions (pick (first select_versions)) (versions_query l) version_names is_first
-      (select_planned schema (pick (first select_versions)) select answer (record { lets = []; body = versions_query l }) is_read is_timeless means is_typed)
+  pub select_versions_is : Shows schema select_versions (versions_query tree) version_names
+  select_versions_is = shows_from schema select_versions (pick (first select_versions)) (versions_query tree) version_names is_first
+      (select_planned schema (pick (first select_versions)) select answer (record { lets = []; body = versions_query tree }) is_read is_timeless means is_typed)

@@ -13,7 +13,7 @@ use Rattle.sqlite_trees.specs.declared.store.Shape.TheVariants.{Table as Shaped}
 use Rattle.sqlite_trees.specs.declared.store.Store.{Ghosts}
 use Rattle.br_model.specs.Job.{JobRows}
 use Rattle.br_catalog_rows.specs.Inserted.{Adds}
-use Rattle.br_store.specs.Held.{HasTables, rows_in}
+use Rattle.br_store.specs.Held.{HasTables, HasVersions, rows_in}
 use Rattle.br_store.specs.Made.{HasEmptied}
 
 -- ---- premises
@@ -67,14 +67,22 @@ BorrowsSame old new = new.ghost_name ≡ old.ghost_name
 abbrev pub CommitsNothing : {S : Type 0} → Ghosts S → Held S → Held S → Type 0
 CommitsNothing g old new = Survives (state g old) (state g new) (λ _. ⊥)
 
--- no fault is forgotten, and a crash leaves what it could leave before the call, or rows to which
--- the job was added
+-- these are the trees of a catalogue that has the rows of this database, and the job
+abbrev pub HasAdded : JobRows → Database → Trees → Type 0
+HasAdded job before trees = (db : Database) × HasTables db × Adds job (rows_in before.trees) (rows_in db.trees) × (trees ≡ db.trees)
+
+-- no fault is forgotten, and a crash leaves what it could leave before the call, or a catalogue to
+-- which the job was added
 abbrev pub MayCommit : {S : Type 0} → Ghosts S → Held S → Held S → JobRows → Type 0
-MayCommit g old new job = Survives (state g old) (state g new) (λ trees. Adds job (rows_in (state g old).now.trees) (rows_in trees))
+MayCommit g old new job = Survives (state g old) (state g new) (λ trees. HasAdded job (state g old).now trees)
 
 -- the database has the catalogue's tables, if its disk is clean
 abbrev pub IsReadable : {S : Type 0} → Ghosts S → Held S → Type 0
 IsReadable g held = WhileClean g held (λ database. HasTables database.now)
+
+-- the database has the table of the version, if its disk is clean
+abbrev pub ShowsVersions : {S : Type 0} → Ghosts S → Held S → Type 0
+ShowsVersions g held = WhileClean g held (λ database. HasVersions database.now)
 
 -- a call that begins outside a transaction ends outside a transaction
 abbrev pub StaysIdle : {S : Type 0} → Held S → Held S → Type 0

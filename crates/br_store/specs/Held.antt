@@ -31,8 +31,8 @@ use Rattle.br_catalog_rows.specs.TreePlaces.{job_type, job_level, job_client, jo
 use Rattle.br_catalog_rows.specs.TreePlaces.{job_session_id, job_session_time, span_job, span_media, span_first_index, span_last_index}
 use Rattle.br_catalog_rows.specs.TreePlaces.{span_start_file, span_end_file, span_start_block, span_end_block, span_vol_index}
 use Rattle.br_catalog_rows.specs.TreePlaces.{file_index, file_job, file_path, file_filename, file_lstat, file_md5}
-use Rattle.br_catalog_rows.specs.Tables.{tables_at}
-use Rattle.br_catalog_rows.specs.KnownSchemas.{HasAll, Owns}
+use Rattle.br_catalog_rows.specs.Tables.{tables_at, version}
+use Rattle.br_catalog_rows.specs.KnownSchemas.{HasAll, Own, Owns, Stands, with_own}
 
 -- ---- where the tables are
 
@@ -133,6 +133,17 @@ pub record HasTables (db : Database) : Type 0 where
   pub schema : HasAll db.schema (layout_in db.trees) own
   pub sound : IsDatabase db
   pub shaped : AllByRecursion (λ (t : Table). IsShaped Shaped (db.trees t.tree)) (tables_at (layout_in db.trees))
+
+-- the rows of the table of the version
+abbrev pub versions_in : Trees → List Row
+versions_in trees = (rows_in trees).versions
+
+-- A database with the table of the version, whose rows ascend, whatever is beside it. The table may
+-- have additional columns.
+pub record HasVersions (db : Database) : Type 0 where
+  pub own : Own
+  pub table : Stands db.schema (with_own (version (tree_named db.trees (codes "Version"))) own)
+  pub shaped : IsShaped Shaped (db.trees (tree_named db.trees (codes "Version")))
 
 -- the invariant of a store's connection: no transaction is open, and while the connection is
 -- open the database has the tables

@@ -1,19 +1,19 @@
 -- A catalogue under construction.
-use Rattle.std.specs.Prelude.{◌≡◌, ◌⊎◌, List, [], ◌∷◌, Bool, false, IsTrue}
+use Rattle.std.specs.Prelude.{◌≡◌, ◌⊎◌, List, [], ◌∷◌, Bool, false, if◌then◌else◌, Option, None, Some, IsTrue}
 use Rattle.std.specs.List.{AllByRecursion}
 use Rattle.sqlite.specs.Table.{Table}
 use Rattle.sqlite.specs.Schema.{Schema}
 use Rattle.sqlite.specs.Effect.{Database, IsDatabase}
-use Rattle.sqlite.specs.State.{State}
+use Rattle.sqlite.specs.State.{State, IsUnchanged}
 use Rattle.sqlite.specs.Order.{Row, column}
 use Rattle.br_catalog_rows.specs.Decode.{natural}
 use Rattle.br_catalog_rows.specs.Load.{is_read}
 use Rattle.br_catalog_rows.specs.Fault.{IsStoreFault}
 use Rattle.br_catalog_rows.specs.declared.fault.StoreFault.{StoreFault}
-use Rattle.br_catalog_rows.specs.declared.fault.StoreFault.TheVariants.{OldCatalogue}
+use Rattle.br_catalog_rows.specs.declared.fault.StoreFault.TheVariants.{BadCatalogue, Memory, OldCatalogue}
 use Rattle.br_catalog_rows.specs.Rows.{no_rows}
 use Rattle.br_catalog_rows.specs.Tables.{no_schema}
-use Rattle.br_store.specs.Held.{HasTables, rows_in}
+use Rattle.br_store.specs.Held.{HasTables, HasVersions, rows_in, versions_in}
 
 -- a database with these tables, which have no row
 pub record HasEmptied (schema : Schema) (db : Database) : Type 0 where
@@ -44,9 +44,31 @@ abbrev pub is_first : List Row → Bool
 is_first (row ∷ []) = is_read 1 (natural (column row 0))
 is_first _ = false
 
--- why a catalogue is not opened: the store failed or refused, or the catalogue is of version 1
+-- the versions are the one row 2
+abbrev pub is_second : List Row → Bool
+is_second (row ∷ []) = is_read 2 (natural (column row 0))
+is_second _ = false
+
+-- The refusal that the versions decide: the one row 1 is an old catalogue, and anything but the one
+-- row 2 a bad one.
+abbrev pub version_refusal : List Row → Option StoreFault
+version_refusal versions = if is_first versions then Some OldCatalogue else (if is_second versions then None else Some BadCatalogue)
+
+-- why a catalogue is not opened: the store failed or refused, or the catalogue is of version 1 or of
+-- another one
 abbrev pub IsOpenFault : StoreFault → Type 0
-IsOpenFault fault = IsStoreFault fault ⊎ (fault ≡ OldCatalogue)
+IsOpenFault fault = IsStoreFault fault ⊎ ((fault ≡ OldCatalogue) ⊎ (fault ≡ BadCatalogue))
+
+-- The store failed or refused; or the database has the table of the version, whose rows decide the
+-- refusal, and is unchanged.
+abbrev pub IsWhy : State → State → StoreFault → Type 0
+IsWhy old new fault =
+    IsStoreFault fault ⊎ (HasVersions old.now × (version_refusal (versions_in old.now.trees) ≡ Some fault) × IsUnchanged old new)
+
+-- why the jobs are not loaded: the store failed or refused, memory ran out, or the rows form no
+-- history
+abbrev pub IsLoadFault : StoreFault → Type 0
+IsLoadFault fault = IsStoreFault fault ⊎ ((fault ≡ Memory) ⊎ (fault ≡ BadCatalogue))
 
 -- opening keeps the database that it finds, or makes a catalogue with no job in a database with no
 -- table

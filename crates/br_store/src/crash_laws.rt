@@ -1,7 +1,7 @@
 //! Facts about commits to a catalogue in a database. The calls do nothing: a caller makes one for
 //! its clauses.
 ghost use Rattle.br_keeper.specs.Keeping.{shelf_of};
-ghost use Rattle.br_store.specs.Crash.{CommitsOutlive};
+ghost use Rattle.br_store.specs.Crash.{CommitsOutlive, RefusalsAreWhole};
 
 use br_volume::VolumeStore;
 use sqlite::Alter;
@@ -11,4 +11,11 @@ use sqlite::Alter;
 /// leave before, or the rows with the job. After any other refusal the database is unchanged.
 pub fn commits_outlive_crashes<S: Alter, W: VolumeStore>()
     ensures { CommitsOutlive S.Store (shelf_of W.holds W.failures) }
+{}
+
+/// States what an opening finds after an insertion that was refused, also if a failure shut the
+/// store. Of a database that a crash leaves then it finds the rows as they were before, or with the
+/// job.
+pub fn refused_jobs_are_whole<S: Alter>()
+    ensures { RefusalsAreWhole S.Store }
 {}

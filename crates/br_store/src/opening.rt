@@ -1,18 +1,18 @@
 //! A database made into a catalogue, or opened as one.
 
-ghost use Rattle.std.specs.Prelude.{◌≡◌, false, IsTrue, IfOk, IfErr, OnOk, OnErr};
+ghost use Rattle.std.specs.Prelude.{◌≡◌, false, None, IsTrue, IfOk, IfErr, OnOk, OnErr};
 ghost use Rattle.sqlite.specs.Held.{state};
-ghost use Rattle.sqlite.specs.State.{HasCleanDisk, IsUnchanged, Survives};
+ghost use Rattle.sqlite.specs.State.{IsUnchanged, Survives};
 ghost use Rattle.br_catalog_rows.specs.Tables.{no_schema};
-ghost use Rattle.br_store.specs.Calls.{CommitsNothing, IsJustOpened, IsReadable, IsSame, OnCleanDisk, StaysIdle, WhileClean};
-ghost use Rattle.br_store.specs.Held.{IsCatalogue, HasTables, rows_in};
+ghost use Rattle.br_store.specs.Calls.{CommitsNothing, IsJustOpened, IsSame, OnCleanDisk, ShowsVersions, StaysIdle, WhileClean};
+ghost use Rattle.br_store.specs.Held.{IsCatalogue, versions_in};
 ghost use Rattle.br_catalog_rows.specs.Fault.{IsStoreFault};
-ghost use Rattle.br_store.specs.Made.{Finds, IsMade, IsOpenFault, is_first};
+ghost use Rattle.br_store.specs.Made.{Finds, IsMade, IsOpenFault, IsWhy, version_refusal};
 
 use crate::queries::versions;
 use crate::tables::make_tables;
-use crate::version::are_first;
-use br_catalog_rows::{StoreFault, is_empty, is_old, is_ours};
+use crate::version::refusal_of;
+use br_catalog_rows::{StoreFault, has_version, is_empty, is_ours};
 use sqlite::{Alter, Connection, Error, ErrorCode};
 use std::alloc::Global;
 
@@ -55,78 +55,56 @@ pub fn reopened<S: Alter + Drop>(
     }
 }
 
-/// Refuses a catalogue whose version is the one row 1.
-fn check_current<S: Alter>(conn: &mut Connection<S>) -> Result<(), StoreFault>
-    requires { IsReadable S.Store conn.old }
+/// Returns why a database is refused that lacks one of the catalogue's tables.
+fn lacks_a_table() -> StoreFault
+    ensures { IsStoreFault result }
+{
+    StoreFault::Store(Error::SqliteFailure(ErrorCode::NotADatabase))
+}
+
+/// Refuses a catalogue whose versions are not the one row 2.
+fn check_version<S: Alter>(conn: &mut Connection<S>) -> Result<(), StoreFault>
+    requires { ShowsVersions S.Store conn.old }
     ensures current { OnCleanDisk S.Store conn.old conn.new (λ old new.
-        OnOk result (is_first (rows_in old.now.trees).versions ≡ false)) }
+        OnOk result (version_refusal (versions_in old.now.trees) ≡ None)) }
+    ensures why { OnCleanDisk S.Store conn.old conn.new (λ old new. IfErr result (IsWhy old new)) }
     ensures same { OnCleanDisk S.Store conn.old conn.new (λ old new. OnOk result (IsUnchanged old new)) }
     ensures idle { StaysIdle conn.old conn.new }
     ensures survives { CommitsNothing S.Store conn.old conn.new }
     ensures cause { IfErr result (λ e. IsOpenFault e) }
 {
     let versions = versions(conn)?;
-    if are_first(&versions) {
-        return Err(StoreFault::OldCatalogue);
+    match refusal_of(&versions) {
+        Some(fault) => Err(fault),
+        None => Ok(()),
+    }
+}
+
+/// Makes the tables in a database with no table. Of any other it tests the version first, and then
+/// the tables.
+pub(crate) fn make_or_check<S: Alter>(conn: &mut Connection<S>) -> Result<(), StoreFault>
+    requires { IsJustOpened S.Store conn.old }
+    ensures catalogue { OnOk result (IsCatalogue S.Store conn.new) }
+    ensures open { OnCleanDisk S.Store conn.old conn.new (λ old new. OnOk result (IsTrue new.is_open)) }
+    ensures settled { OnCleanDisk S.Store conn.old conn.new (λ old new. OnOk result (new.now ≡ new.committed)) }
+    ensures finds { OnCleanDisk S.Store conn.old conn.new (λ old new. OnOk result (Finds old.committed new.now)) }
+    ensures fresh { OnCleanDisk S.Store conn.old conn.new (λ old new.
+        OnOk result (old.committed.schema ≡ no_schema → IsMade new.now)) }
+    ensures current { OnCleanDisk S.Store conn.old conn.new (λ old new.
+        OnOk result (version_refusal (versions_in new.now.trees) ≡ None)) }
+    ensures why { OnCleanDisk S.Store conn.old conn.new (λ old new. IfErr result (IsWhy old new)) }
+    ensures cause { IfErr result (λ e. IsOpenFault e) }
+{
+    if is_empty(conn.schema()) {
+        create(conn)?;
+        return Ok(());
+    }
+    if !has_version(conn.schema()) {
+        return Err(lacks_a_table());
+    }
+    check_version(conn)?;
+    if !is_ours(conn.schema()) {
+        return Err(lacks_a_table());
     }
     Ok(())
-}
-
-/// Returns why a database with the tables of version 1 is refused.
-fn refusal_of_old<S: Alter>(conn: &mut Connection<S>) -> StoreFault
-    ensures { IsOpenFault result }
-{
-    match conn.query_all("SELECT VersionId FROM Version ORDER BY rowid", &[]) {
-        Ok(versions) => {
-            if are_first(&versions) {
-                StoreFault::OldCatalogue
-            } else {
-                StoreFault::Store(Error::SqliteFailure(ErrorCode::NotADatabase))
-            }
-        }
-        Err(why) => StoreFault::Store(why),
-    }
-}
-
-/// Returns the catalogue in a database that has its tables, unless it is of version 1.
-fn current<S: Alter + Drop>(mut conn: Connection<S>) -> Result<Connection<S>, StoreFault>
-    requires idle { conn.in_transaction ≡ false }
-    requires tables { WhileClean S.Store conn (λ is. HasTables is.now) }
-    ensures catalogue { IfOk result (λ c. IsCatalogue S.Store c) }
-    ensures same { IfOk result (λ c. OnCleanDisk S.Store conn c IsUnchanged) }
-    ensures clean { IfOk result (λ c. HasCleanDisk (state S.Store c) → HasCleanDisk (state S.Store conn)) }
-    ensures current { IfOk result (λ c. WhileClean S.Store c (λ is. is_first (rows_in is.now.trees).versions ≡ false)) }
-    ensures cause { IfErr result (λ e. IsOpenFault e) }
-{
-    check_current(&mut conn)?;
-    Ok(conn)
-}
-
-/// Opens a catalogue: makes the tables in a database with no table, and refuses a catalogue of
-/// version 1 and a database that lacks one of the tables.
-pub(crate) fn opened_or_made<S: Alter + Drop>(
-    conn: Connection<S>,
-) -> Result<Connection<S>, StoreFault>
-    requires { IsJustOpened S.Store conn }
-    ensures catalogue { IfOk result (λ c. IsCatalogue S.Store c) }
-    ensures open { IfOk result (λ c. WhileClean S.Store c (λ is. IsTrue is.is_open)) }
-    ensures settled { IfOk result (λ c. WhileClean S.Store c (λ is. is.now ≡ is.committed)) }
-    ensures finds { IfOk result (λ c. WhileClean S.Store c (λ is. Finds (state S.Store conn).committed is.now)) }
-    ensures fresh { IfOk result (λ c. WhileClean S.Store c (λ is.
-        (state S.Store conn).committed.schema ≡ no_schema → IsMade is.now)) }
-    ensures current { IfOk result (λ c. WhileClean S.Store c (λ is. is_first (rows_in is.now.trees).versions ≡ false)) }
-    ensures cause { IfErr result (λ e. IsOpenFault e) }
-{
-    let mut conn = conn;
-    if is_empty(conn.schema()) {
-        create(&mut conn)?;
-        return Ok(conn);
-    }
-    if is_ours(conn.schema()) {
-        return current(conn);
-    }
-    if is_old(conn.schema()) {
-        return Err(refusal_of_old(&mut conn));
-    }
-    Err(StoreFault::Store(Error::SqliteFailure(ErrorCode::NotADatabase)))
 }

@@ -3,8 +3,8 @@
 ghost use Rattle.std.specs.Prelude.{◌≡◌, false, IsTrue, IfOk, OnOk, OnErr};
 ghost use Rattle.sqlite.specs.Held.{state};
 ghost use Rattle.sqlite.specs.State.{IsUnchanged, KeepsCommit};
-ghost use Rattle.br_store.specs.Calls.{CommitsNothing, IsReadable, IsSame, OnCleanDisk, Stays, StaysIdle};
-ghost use Rattle.br_store.specs.Held.{IsCatalogue, rows_in};
+ghost use Rattle.br_store.specs.Calls.{CommitsNothing, IsReadable, IsSame, OnCleanDisk, ShowsVersions, Stays, StaysIdle};
+ghost use Rattle.br_store.specs.Held.{IsCatalogue, rows_in, versions_in};
 
 use crate::laws::idle_is_settled;
 use br_catalog_rows::CatalogueRows;
@@ -12,9 +12,9 @@ use sqlite::{Alter, Connection, Error, Row};
 
 /// Reads the versions.
 pub(crate) fn versions<S: Alter>(conn: &mut Connection<S>) -> Result<Vec<Row>, Error>
-    requires { IsReadable S.Store conn.old }
+    requires { ShowsVersions S.Store conn.old }
     ensures rows { OnCleanDisk S.Store conn.old conn.new (λ old new.
-        IfOk result (λ rows. rows.items ≡ (rows_in old.now.trees).versions)) }
+        IfOk result (λ rows. rows.items ≡ versions_in old.now.trees)) }
     ensures same { OnCleanDisk S.Store conn.old conn.new (λ old new. OnOk result (IsUnchanged old new)) }
     ensures idle { StaysIdle conn.old conn.new }
     ensures kept { OnCleanDisk S.Store conn.old conn.new (λ old new. OnErr result (KeepsCommit old new)) }

@@ -1,21 +1,21 @@
 //! The catalogue as a store of jobs.
 
-ghost use Rattle.std.specs.Prelude.{◌≡◌, false, IsTrue, IfOk, IfErr, OnOk, OnErr};
+ghost use Rattle.std.specs.Prelude.{◌≡◌, false, None, IsTrue, IfOk, IfErr, OnOk, OnErr};
 ghost use Rattle.sqlite.specs.Held.{state};
 ghost use Rattle.br_model.specs.Answer.{Answers};
 ghost use Rattle.br_catalog_rows.specs.Tables.{no_schema};
-ghost use Rattle.br_catalog_rows.specs.Fault.{IsStoreFault, cause};
+ghost use Rattle.br_catalog_rows.specs.Fault.{IsStoreFault, cause, of_rows_fault};
 ghost use Rattle.br_catalog_rows.specs.Load.{read_history};
 ghost use Rattle.br_catalog_rows.specs.Rows.{no_rows};
 ghost use Rattle.br_store.specs.Calls.{AddsJob, CommitsNothing, IsCommitted, IsDurable, IsJustOpened, IsReadable, IsSame};
 ghost use Rattle.br_store.specs.Calls.{MayCommit, OnCleanDisk, WhileClean};
-ghost use Rattle.br_store.specs.Held.{IsCatalogue, HasTables, rows_in};
-ghost use Rattle.br_store.specs.Made.{Finds, IsOpenFault, is_first};
+ghost use Rattle.br_store.specs.Held.{IsCatalogue, HasTables, rows_in, versions_in};
+ghost use Rattle.br_store.specs.Made.{Finds, IsLoadFault, IsOpenFault, IsWhy, version_refusal};
 
 use crate::job_writing::write_job;
-use crate::opening::opened_or_made;
+use crate::opening::make_or_check;
 use crate::queries::{read, ready};
-use br_catalog_rows::{StoreFault, history_of};
+use br_catalog_rows::{RowsFault, StoreFault, history_of};
 use br_history::{History, JobRows};
 use sqlite::{Alter, Connection, Error};
 use std::alloc::Global;
@@ -44,13 +44,14 @@ impl<S: Alter> Model for Store<S> {
 impl<S: Alter + Drop> Store<S> {
     /// Opens the catalogue in a database, as it was last committed. In a database with no table it
     /// makes a catalogue with no job, in one transaction (`create`). A crash afterwards leaves
-    /// exactly that.
+    /// exactly that. Of any other database the version is read first, and then the tables.
     ///
     /// # Errors
     ///
-    /// `Store`, with its cause, if the database fails or does not have the tables of a catalogue;
-    /// `OldCatalogue` if it is of version 1, and has to be migrated.
-    pub fn open(alloc: Global, conn: Connection<S>) -> Result<Store<S>, StoreFault>
+    /// `OldCatalogue` if the version is the one row 1, `BadCatalogue` if it is not the one row 2
+    /// either, and nothing is changed then (`why`). `Store`, with its cause, if the database fails or does not
+    /// have the tables of a catalogue. The connection is returned with the cause.
+    pub fn open(alloc: Global, conn: Connection<S>) -> Result<Store<S>, (StoreFault, Connection<S>)>
         requires { IsJustOpened S.Store conn }
         ensures open { IfOk result (λ s. WhileClean S.Store s (λ is. IsTrue is.is_open)) }
         ensures finds { IfOk result (λ s. WhileClean S.Store s (λ is. Finds (state S.Store conn).committed is.now)) }
@@ -58,11 +59,15 @@ impl<S: Alter + Drop> Store<S> {
             (state S.Store conn).committed.schema ≡ no_schema → rows_in is.now.trees ≡ no_rows)) }
         ensures settled { IfOk result (λ s. WhileClean S.Store s (λ is. is.now ≡ is.committed)) }
         ensures crash { IfOk result (λ s. WhileClean S.Store s IsDurable) }
-        ensures current { IfOk result (λ s. WhileClean S.Store s (λ is. is_first (rows_in is.now.trees).versions ≡ false)) }
-        ensures cause { IfErr result (λ e. IsOpenFault e) }
+        ensures current { IfOk result (λ s. WhileClean S.Store s (λ is. version_refusal (versions_in is.now.trees) ≡ None)) }
+        ensures why { IfErr result (λ refused. WhileClean S.Store refused.1 (λ is. IsWhy (state S.Store conn) is refused.0)) }
+        ensures cause { IfErr result (λ refused. IsOpenFault refused.0) }
     {
-        let conn = opened_or_made(conn)?;
-        Ok(Store { conn, alloc })
+        let mut conn = conn;
+        match make_or_check(&mut conn) {
+            Ok(()) => Ok(Store { conn, alloc }),
+            Err(fault) => Err((fault, conn)),
+        }
     }
 }
 
@@ -98,9 +103,13 @@ impl<S: Alter> Store<S> {
         ensures same { OnCleanDisk S.Store self.old self.new (λ old new. IsTrue new.is_open → IsSame old new) }
         ensures open { OnCleanDisk S.Store self.old self.new (λ old new. OnOk result (IsTrue new.is_open)) }
         ensures survives { CommitsNothing S.Store self.old self.new }
+        ensures cause { IfErr result (λ e. IsLoadFault e) }
     {
         let rows = read(&mut self.conn)?;
-        history_of(self.alloc, &rows)
+        match history_of(self.alloc, &rows) {
+            Ok(history) => Ok(history),
+            Err(fault) => Err(store_fault(fault)),
+        }
     }
 
     /// Returns the connection to the database.
@@ -110,6 +119,17 @@ impl<S: Alter> Store<S> {
     {
         let Store { conn, alloc: _ } = self;
         conn
+    }
+}
+
+/// Returns the refusal of rows as that of their catalogue.
+fn store_fault(fault: RowsFault) -> StoreFault
+    ensures same { result ≡ of_rows_fault fault }
+    ensures loads { IsLoadFault result }
+{
+    match fault {
+        RowsFault::Memory => StoreFault::Memory,
+        RowsFault::BadRows => StoreFault::BadCatalogue,
     }
 }
 

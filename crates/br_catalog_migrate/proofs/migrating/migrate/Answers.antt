@@ -1,6 +1,6 @@
 use Rattle.std.proofs.Common.{arith, sym, ◌∙◌}
 use Rattle.sqlite_trees.specs.View.{IsClean}
-use Rattle.br_catalog_migrate.proofs.KeptLaws.{fresh_again, has_migrated, keeps_jobs, moves_then, numbered_again, same_again, survives_of}
+use Rattle.br_catalog_migrate.proofs.KeptLaws.{counts_jobs, fresh_again, has_migrated, moves_then, numbered_again, same_again, survives_of}
 use Rattle.br_catalog_migrate.proofs.migrating.migrate.Goals as goal
 
 pub returns-in-Ok-clause-migrated : goal.returns-in-Ok-clause-migrated
@@ -8,8 +8,8 @@ returns-in-Ok-clause-migrated g c = λ clean.
     has_migrated (g.S.Store.view c.args.store.now) (g.S.Store.view c.move_all.new.store) c.in-Ok.jobs (c.in-Ok.ensures.moved clean)
 
 pub returns-in-Ok-clause-jobs : goal.returns-in-Ok-clause-jobs
-returns-in-Ok-clause-jobs g c = λ clean sound.
-    keeps_jobs (g.S.Store.view c.args.store.now) (g.S.Store.view c.move_all.new.store) c.in-Ok.jobs (c.in-Ok.ensures.moved clean) sound
+returns-in-Ok-clause-jobs g c = λ clean.
+    counts_jobs (g.S.Store.view c.args.store.now) (g.S.Store.view c.move_all.new.store) c.in-Ok.jobs (c.in-Ok.ensures.moved clean)
 
 pub returns-in-Ok-clause-crash : goal.returns-in-Ok-clause-crash
 returns-in-Ok-clause-crash g c = survives_of c.move_all.ensures.crash

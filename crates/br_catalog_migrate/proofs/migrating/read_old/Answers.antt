@@ -6,7 +6,6 @@ use Rattle.br_model.specs.Job.{JobRows}
 use Rattle.br_catalog_rows.specs.Load.{read_loaded}
 use Rattle.br_catalog_migrate.specs.OldFiles.{AreFiles, moved_row, shown_row}
 use Rattle.br_catalog_migrate.specs.OldNames.{AreNames}
-use Rattle.br_catalog_migrate.specs.OldTrees.{file_tree, name_tree, path_tree}
 use Rattle.br_catalog_migrate.specs.OldRead.{AreSorted, files_in, jobs_in, spans_in}
 use Rattle.br_catalog_migrate.specs.Sound.{AreMovedRows}
 use Rattle.br_catalog_migrate.specs.WholeMigration.{FormFiles}
@@ -17,6 +16,7 @@ use Rattle.br_catalog_migrate.proofs.migrating.read_old.Goals as goal
 
 pub returns-clause-old : goal.returns-clause-old
 returns-clause-old g c = λ clean.
+    let l = c.args.layout.now in
     let v0 = g.S.Store.view c.args.store.now in
     let v1 = g.S.Store.view c.read_version.new.store in
     let v2 = g.S.Store.view c.load_jobs.new.store in
@@ -32,23 +32,23 @@ returns-clause-old g c = λ clean.
     let t3 : v3.trees ≡ v0.trees = same_trees v2 v3 (c.in_ok-paths.ensures.reads clean3) ∙ t2 in
     let t4 : v4.trees ≡ v0.trees = same_trees v3 v4 (c.in_ok-names.ensures.reads clean4) ∙ t3 in
     let fits : SFits w64 c.in_ok-version.version = search rules in
-    let sorted = sorted_in v0 (g.met.S.Store.ordered c.args.store.now (c.requires clean0)) (c.are_tables.ensures c.if-not-are_tables.false) in
+    let sorted = sorted_in l v0 (g.met.S.Store.ordered c.args.store.now (c.requires clean0)) (c.are_tables.ensures c.if-not-are_tables.false) in
     let history = c.in_ok-history.history in
-    let paths = subst (λ (t : Trees). AreNames c.in_ok-paths.paths (t path_tree)) t2 (c.in_ok-paths.ensures.names clean3) in
-    let names = subst (λ (t : Trees). AreNames c.in_ok-names.names (t name_tree)) t3 (c.in_ok-names.ensures.names clean4) in
-    let files = subst (λ (t : Trees). AreFiles c.in_ok-files.files (t file_tree)) t4 (c.in_ok-files.ensures.files clean) in
-    let bare = subst (λ (t : Trees). read_loaded (jobs_in t) (spans_in t) [] ≡ Ok history) t1 (c.in_ok-history.ensures.jobs clean2 (subst AreSorted (sym t1) sorted)) in
-    let of_jobs = λ (jobs : List JobRows) (t : Trees). FormFiles (map (λ (j : JobRows). j.row) jobs) (map (shown_row (v0.trees path_tree) (v0.trees name_tree)) (t file_tree)) in
-    let form : FormFiles (map (λ (j : JobRows). j.row) history) (files_in v0.trees) =
+    let paths = subst (λ (t : Trees). AreNames c.in_ok-paths.paths (t l.path)) t2 (c.in_ok-paths.ensures.names clean3) in
+    let names = subst (λ (t : Trees). AreNames c.in_ok-names.names (t l.filename)) t3 (c.in_ok-names.ensures.names clean4) in
+    let files = subst (λ (t : Trees). AreFiles c.in_ok-files.files (t l.file)) t4 (c.in_ok-files.ensures.files clean) in
+    let bare = subst (λ (t : Trees). read_loaded (jobs_in l t) (spans_in l t) [] ≡ Ok history) t1 (c.in_ok-history.ensures.jobs clean2 (subst (AreSorted l) (sym t1) sorted)) in
+    let of_jobs = λ (jobs : List JobRows) (t : Trees). FormFiles (map (λ (j : JobRows). j.row) jobs) (map (shown_row (v0.trees l.path) (v0.trees l.filename)) (t l.file)) in
+    let form : FormFiles (map (λ (j : JobRows). j.row) history) (files_in l v0.trees) =
     subst (λ (jobs : List JobRows). of_jobs jobs v0.trees) c.jobs.ensures.same
-    (subst (of_jobs c.jobs.result.now) t4 (c.in_ok-files.ensures.whole clean (v0.trees path_tree) (v0.trees name_tree) paths names sorted.paths.0 sorted.names.0)) in
-    let it = read_with_files (jobs_in v0.trees) (spans_in v0.trees) (files_in v0.trees) history form.0 bare form.1 in
+    (subst (of_jobs c.jobs.result.now) t4 (c.in_ok-files.ensures.whole clean (v0.trees l.path) (v0.trees l.filename) paths names sorted.paths.0 sorted.names.0)) in
+    let it = read_with_files (jobs_in l v0.trees) (spans_in l v0.trees) (files_in l v0.trees) history form.0 bare form.1 in
     record {
       version_is = c.in_ok-version.ensures.version clean1 ∙ ap (λ (z : ℤ). (Int z ∷ Int (pos 1) ∷ []) ∷ []) (sym (to_z-of_z w64 c.in_ok-version.version fits));
       sorted = sorted;
       names_are = names;
       files_are = files;
-      moved = subst (λ (t : Trees). AreMovedRows (t file_tree) (map (moved_row (v0.trees name_tree)) (t file_tree))) t4 (c.in_ok-files.ensures.moved clean (v0.trees name_tree) names sorted.names.0);
+      moved = subst (λ (t : Trees). AreMovedRows (t l.file) (map (moved_row (v0.trees l.filename)) (t l.file))) t4 (c.in_ok-files.ensures.moved clean (v0.trees l.filename) names sorted.names.0);
       all = it.0;
       loaded = it.1;
       many = c.len.ensures ∙ sym it.2;

@@ -18,3 +18,6 @@ create-requires g c = λ clean. record {
       unnamed_in (Text (codes "File")) objects
       (subst (λ (l : List Row). AllByRecursion (λ r. column r 2 ≢ Text (codes "File")) l) (c.deref.ensures.value ∙ c.in_ok-objects.ensures clean) (c.has_file.ensures c.if-not-has_file.true));
 }
+
+pub returns-in-Ok-clause-made : goal.returns-in-Ok-clause-made
+returns-in-Ok-clause-made g c = λ clean. (_, _, _, c.in-Ok.ensures.ok clean, refl)

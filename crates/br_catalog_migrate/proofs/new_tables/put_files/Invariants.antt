@@ -4,7 +4,6 @@ use Rattle.sqlite_trees.specs.Tree.{IsTable}
 use Rattle.sqlite_trees.specs.View.{IsClean}
 use Rattle.br_catalog_migrate.specs.OldFiles.{AreFiles, moved_row}
 use Rattle.br_catalog_migrate.specs.OldNames.{AreNames}
-use Rattle.br_catalog_migrate.specs.OldTrees.{file_tree}
 use Rattle.br_catalog_migrate.specs.Renewed.{HasFiles}
 use Rattle.br_catalog_migrate.specs.MigrationSteps.{CommitsNothing}
 use Rattle.br_catalog_migrate.proofs.new_tables.put_files.Given as goal
@@ -13,5 +12,5 @@ use Rattle.br_catalog_migrate.proofs.new_tables.put_files.Given as goal
 abbrev pub invariant-loop-at : goal.invariant-loop-at
 invariant-loop-at g l =
     CommitsNothing g.S.Store l.fn.store l.store
-    × (IsClean (g.S.Store.view l.store) → (rows ns : List Row) → AreFiles l.files rows → AreNames l.names ns → IsTable ns → IsTable rows → (g.S.Store.view l.fn.store).trees file_tree ≡ []
-    → HasFiles (g.S.Store.view l.fn.store) (g.S.Store.view l.store) (take l.at (map (moved_row ns) rows)))
+    × (IsClean (g.S.Store.view l.store) → (rows ns : List Row) → AreFiles l.files rows → AreNames l.names ns → IsTable ns → IsTable rows → (g.S.Store.view l.fn.store).trees l.tree ≡ []
+    → HasFiles l.tree (g.S.Store.view l.fn.store) (g.S.Store.view l.store) (take l.at (map (moved_row ns) rows)))

@@ -2,7 +2,6 @@ use Rattle.std.proofs.Common.{List, ◌++◌, ◌∷◌, [], map, subst}
 use Rattle.sqlite.specs.Order.{Row}
 use Rattle.br_model.specs.Job.{JobRows as Job}
 use Rattle.br_catalog_migrate.specs.OldFiles.{moved_row, shown_row}
-use Rattle.br_catalog_migrate.specs.OldTrees.{file_tree}
 use Rattle.br_catalog_migrate.specs.Sound.{AreMovedRows}
 use Rattle.br_catalog_migrate.specs.MigrationSteps.{GoesOn}
 use Rattle.br_catalog_migrate.specs.WholeMigration.{AreWhole}
@@ -16,7 +15,7 @@ rows-init g c = (
   c.start.ensures.kept,
   λ clean.
       let starts = c.in_ok-start.ensures.starts clean in
-      let taken : AreTaken (g.S.Store.view c.args.store.now) (g.S.Store.view c.start.new.store) file_tree [] = record { reads = starts.reads; left = starts.left } in
+      let taken : AreTaken (g.S.Store.view c.args.store.now) (g.S.Store.view c.start.new.store) c.args.tree [] = record { reads = starts.reads; left = starts.left } in
       ([], taken, c.in_ok-reading.ensures.files, λ ns names up. tt, λ ps ns paths names up_paths up_names. c.in_ok-reading.ensures.whole),
 )
 
@@ -31,7 +30,7 @@ rows-preserved g c = (
       let so = c.rows.invariant.2 (clean_before c.step.ensures.kept clean) in
       let on = subst (GoesOn old new row) c.if-not-branch.false (c.in_ok-step.ensures.goes_on clean) in (
         so.0 ++ row ∷ [],
-        take_next (g.S.Store.view c.args.store.now) old new file_tree so.0 row so.1 on,
+        take_next (g.S.Store.view c.args.store.now) old new c.args.tree so.0 row so.1 on,
         c.in_ok-take.ensures.files so.0 so.2,
         λ ns names up. moved_more ns so.0 row (so.3 ns names up) (c.in_ok-take.ensures.moved ns names up),
         λ ps ns paths names up_paths up_names. c.in_ok-take.ensures.whole _ ps ns so.0 paths names up_paths up_names (so.4 ps ns paths names up_paths up_names),
@@ -44,7 +43,7 @@ returns-then-not-branch-clause-whole g c = λ clean ps ns paths names up_paths u
     let new = g.S.Store.view c.step.new.store in
     let so = c.rows.invariant.2 (clean_before c.step.ensures.kept clean) in
     let on = subst (GoesOn old new c.step.new.row) c.if-not-branch.true (c.in_ok-step.ensures.goes_on clean) in
-    let all = take_all (g.S.Store.view c.args.store.now) old new file_tree so.0 c.step.new.row so.1 on in
+    let all = take_all (g.S.Store.view c.args.store.now) old new c.args.tree so.0 c.step.new.row so.1 on in
     let jobs = map (λ (j : Job). j.row) c.args.jobs.now in
     (c.rows.reading.seen, subst (λ (l : List Row). AreWhole jobs c.rows.reading.seen (map (shown_row ps ns) l)) all.1 (so.4 ps ns paths names up_paths up_names))
 
@@ -54,5 +53,5 @@ returns-then-not-branch-clause-moved g c = λ clean ns names up.
     let new = g.S.Store.view c.step.new.store in
     let so = c.rows.invariant.2 (clean_before c.step.ensures.kept clean) in
     let on = subst (GoesOn old new c.step.new.row) c.if-not-branch.true (c.in_ok-step.ensures.goes_on clean) in
-    let all = take_all (g.S.Store.view c.args.store.now) old new file_tree so.0 c.step.new.row so.1 on in
+    let all = take_all (g.S.Store.view c.args.store.now) old new c.args.tree so.0 c.step.new.row so.1 on in
     subst (λ (l : List Row). AreMovedRows l (map (moved_row ns) l)) all.1 (so.3 ns names up)

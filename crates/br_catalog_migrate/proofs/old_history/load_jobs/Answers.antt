@@ -2,7 +2,6 @@ use Rattle.std.proofs.Common.{◌≡◌, [], map, sym, ap, ap₂, subst, ◌∙�
 use Rattle.sqlite.specs.Tree.{Trees}
 use Rattle.br_catalog_rows.specs.Load.{read_loaded}
 use Rattle.br_catalog_migrate.specs.OldNames.{AreNames}
-use Rattle.br_catalog_migrate.specs.OldTrees.{client_tree, fileset_tree, job_tree, media_tree, span_tree}
 use Rattle.br_catalog_migrate.specs.OldRead.{jobs_in, spans_in}
 use Rattle.br_store.specs.Held.{job_shown, span_shown}
 use Rattle.br_catalog_migrate.proofs.MigrateLaws.{same_trees}
@@ -11,6 +10,7 @@ use Rattle.br_catalog_migrate.proofs.old_history.load_jobs.Goals as goal
 
 pub returns-clause-jobs : goal.returns-clause-jobs
 returns-clause-jobs g c = λ clean sorted.
+    let l = c.args.layout.now in
     let v0 = g.S.Store.view c.args.store.now in
     let v1 = g.S.Store.view c.read_names.new.store in
     let v2 = g.S.Store.view c.read_names-2.new.store in
@@ -24,14 +24,14 @@ returns-clause-jobs g c = λ clean sorted.
     let t2 : v2.trees ≡ v0.trees = same_trees v1 v2 (c.in_ok-filesets.ensures.reads clean2) ∙ t1 in
     let t3 : v3.trees ≡ v0.trees = same_trees v2 v3 (c.in_ok-media.ensures.reads clean3) ∙ t2 in
     let t4 : v4.trees ≡ v0.trees = same_trees v3 v4 (c.in_ok-jobs.ensures.reads clean4) ∙ t3 in
-    let clients : AreNames c.in_ok-clients.clients (v0.trees client_tree) = c.in_ok-clients.ensures.names clean1 in
-    let filesets : AreNames c.in_ok-filesets.filesets (v0.trees fileset_tree) = subst (λ (t : Trees). AreNames c.in_ok-filesets.filesets (t fileset_tree)) t1 (c.in_ok-filesets.ensures.names clean2) in
-    let media : AreNames c.in_ok-media.media (v0.trees media_tree) = subst (λ (t : Trees). AreNames c.in_ok-media.media (t media_tree)) t2 (c.in_ok-media.ensures.names clean3) in
-    let jobs : c.in_ok-jobs.jobs.items ≡ jobs_in v0.trees =
-    c.in_ok-jobs.ensures.jobs clean4 (v0.trees client_tree) (v0.trees fileset_tree) clients filesets sorted.clients.0 sorted.filesets.0
-    ∙ ap (λ (t : Trees). map (job_shown (v0.trees client_tree) (v0.trees fileset_tree)) (t job_tree)) t3 in
-    let spans : c.in_ok-spans.spans.items ≡ spans_in v0.trees =
-    c.in_ok-spans.ensures.spans clean (v0.trees media_tree) media sorted.media.0 ∙ ap (λ (t : Trees). map (span_shown (v0.trees media_tree)) (t span_tree)) t4 in
+    let clients : AreNames c.in_ok-clients.clients (v0.trees l.client) = c.in_ok-clients.ensures.names clean1 in
+    let filesets : AreNames c.in_ok-filesets.filesets (v0.trees l.fileset) = subst (λ (t : Trees). AreNames c.in_ok-filesets.filesets (t l.fileset)) t1 (c.in_ok-filesets.ensures.names clean2) in
+    let media : AreNames c.in_ok-media.media (v0.trees l.media) = subst (λ (t : Trees). AreNames c.in_ok-media.media (t l.media)) t2 (c.in_ok-media.ensures.names clean3) in
+    let jobs : c.in_ok-jobs.jobs.items ≡ jobs_in l v0.trees =
+    c.in_ok-jobs.ensures.jobs clean4 (v0.trees l.client) (v0.trees l.fileset) clients filesets sorted.clients.0 sorted.filesets.0
+    ∙ ap (λ (t : Trees). map (job_shown (v0.trees l.client) (v0.trees l.fileset)) (t l.job)) t3 in
+    let spans : c.in_ok-spans.spans.items ≡ spans_in l v0.trees =
+    c.in_ok-spans.ensures.spans clean (v0.trees l.media) media sorted.media.0 ∙ ap (λ (t : Trees). map (span_shown (v0.trees l.media)) (t l.job_media)) t4 in
     sym (ap₂ (λ j s. read_loaded j s []) jobs spans) ∙ c.in_ok-history.ensures
 
 pub returns-clause-kept : goal.returns-clause-kept

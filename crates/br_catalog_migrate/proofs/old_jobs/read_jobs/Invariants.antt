@@ -3,7 +3,6 @@ use Rattle.sqlite.specs.Order.{Row}
 use Rattle.sqlite_trees.specs.Tree.{IsTable}
 use Rattle.sqlite_trees.specs.View.{IsClean}
 use Rattle.br_catalog_migrate.specs.OldNames.{AreNames}
-use Rattle.br_catalog_migrate.specs.OldTrees.{job_tree}
 use Rattle.br_store.specs.Held.{job_shown}
 use Rattle.br_catalog_migrate.specs.MigrationSteps.{CommitsNothing}
 use Rattle.br_catalog_migrate.proofs.StepLaws.{AreTaken}
@@ -13,5 +12,5 @@ use Rattle.br_catalog_migrate.proofs.old_jobs.read_jobs.Given as goal
 abbrev pub invariant-rows : goal.invariant-rows
 invariant-rows g l =
     IsSome ((g.S.Store.view l.store).cursors 0) × CommitsNothing g.S.Store l.fn.store l.store
-    × (IsClean (g.S.Store.view l.store) → (done : List Row) × AreTaken (g.S.Store.view l.fn.store) (g.S.Store.view l.store) job_tree done
+    × (IsClean (g.S.Store.view l.store) → (done : List Row) × AreTaken (g.S.Store.view l.fn.store) (g.S.Store.view l.store) l.tree done
     × ((cs fs : List Row) → AreNames l.clients cs → AreNames l.filesets fs → IsTable cs → IsTable fs → l.jobs.items ≡ map (job_shown cs fs) done))

@@ -1,6 +1,5 @@
 use Rattle.std.proofs.Common.{List, ◌++◌, ◌∷◌, [], map, sym, ap, ap₂, subst, ◌∙◌}
 use Rattle.sqlite.specs.Order.{Row}
-use Rattle.br_catalog_migrate.specs.OldTrees.{span_tree}
 use Rattle.br_store.specs.Held.{span_shown}
 use Rattle.br_catalog_migrate.specs.MigrationSteps.{GoesOn}
 use Rattle.br_catalog_migrate.proofs.NameLaws.{map_push}
@@ -18,7 +17,7 @@ rows-preserved g c = (
       let so = c.rows.invariant.2 (clean_before c.step.ensures.kept clean) in
       let on = subst (GoesOn old new row) c.if-not-branch.false (c.in_ok-step.ensures.goes_on clean) in (
         so.0 ++ row ∷ [],
-        take_next (g.S.Store.view c.args.store.now) old new span_tree so.0 row so.1 on,
+        take_next (g.S.Store.view c.args.store.now) old new c.args.tree so.0 row so.1 on,
         λ ms media up_media.
             c.in_ok-keep.ensures ∙ ap₂ (λ (l : List Row) (x : Row). l ++ x ∷ []) (so.2 ms media up_media) (c.in_ok-shown.ensures ms media up_media) ∙ sym (map_push (span_shown ms) so.0 row),
       ),
@@ -30,5 +29,5 @@ returns-then-not-branch-clause-spans g c = λ clean ms media up_media.
     let new = g.S.Store.view c.step.new.store in
     let so = c.rows.invariant.2 (clean_before c.step.ensures.kept clean) in
     let on = subst (GoesOn old new c.step.new.row) c.if-not-branch.true (c.in_ok-step.ensures.goes_on clean) in
-    let all = take_all (g.S.Store.view c.args.store.now) old new span_tree so.0 c.step.new.row so.1 on in
+    let all = take_all (g.S.Store.view c.args.store.now) old new c.args.tree so.0 c.step.new.row so.1 on in
     so.2 ms media up_media ∙ ap (map (span_shown ms)) all.1

@@ -5,6 +5,7 @@ use Rattle.sqlite.specs.State.{HasCleanDisk}
 use Rattle.sqlite.specs.Held.{state}
 use Rattle.sqlite.proofs.StateLemmas.{survives_then, survives_weaker}
 use Rattle.br_catalog_rows.specs.Inserted.{Adds}
+use Rattle.br_store.specs.Calls.{HasAdded}
 use Rattle.br_store.specs.Held.{HasTables, rows_in}
 use Rattle.br_store.proofs.Ready.{err_with, from_both}
 use Rattle.br_store.proofs.store.insert.Goals as goal
@@ -51,7 +52,7 @@ returns-clause-crash g c =
     survives_then a b z _ _ _ (λ clean db none. absurd none) (λ clean db adds.
     let clean_b : HasCleanDisk b = omega (arith, clean, c.insert_all.ensures.crash.clean) in
     let same = c.ready.ensures.same clean_b (c.in_ok-ready.ensures.open clean_b) in
-    subst (λ (d : Database). Adds c.args.job.now (rows_in d.trees) (rows_in db)) same.1 adds) c.ready.ensures.survives c.insert_all.ensures.crash
+    subst (λ (d : Database). HasAdded c.args.job.now d db) same.1 adds) c.ready.ensures.survives c.insert_all.ensures.crash
 
 pub returns-in_err-ready-clause-catalogue : goal.returns-in_err-ready-clause-catalogue
 returns-in_err-ready-clause-catalogue g c = record {

@@ -1,8 +1,8 @@
 use Rattle.std.proofs.Common.{◌≡◌, subst}
 use Rattle.sqlite.specs.Held.{state}
-use Rattle.sqlite.specs.State.{Survives}
 use Rattle.br_catalog_rows.specs.Inserted.{Adds}
-use Rattle.br_store.specs.Held.{rows_in, rows_of}
+use Rattle.br_store.specs.Calls.{MayCommit}
+use Rattle.br_store.specs.Held.{rows_of}
 use Rattle.br_store.proofs.Ready.{err_with}
 use Rattle.br_store.proofs.store.Store.insert_job.Goals as goal
 
@@ -11,11 +11,11 @@ returns-clause-added g c clean = subst (λ h. Adds c.args.job.now (rows_of g.S.S
 
 pub returns-clause-crash : goal.returns-clause-crash
 returns-clause-crash g c =
-    subst (λ h. Survives (state g.S.Store h) (state g.S.Store c.insert.new.conn) (λ trees. Adds c.args.job.now (rows_of g.S.Store h) (rows_in trees))) c.self.view_is c.insert.ensures.crash
+    subst (λ h. MayCommit g.S.Store h c.insert.new.conn c.args.job.now) c.self.view_is c.insert.ensures.crash
 
 pub returns-in_err-insert-clause-crash : goal.returns-in_err-insert-clause-crash
 returns-in_err-insert-clause-crash g c =
-    subst (λ h. Survives (state g.S.Store h) (state g.S.Store c.insert.new.conn) (λ trees. Adds c.args.job.now (rows_of g.S.Store h) (rows_in trees))) c.self.view_is c.insert.ensures.crash
+    subst (λ h. MayCommit g.S.Store h c.insert.new.conn c.args.job.now) c.self.view_is c.insert.ensures.crash
 
 pub returns-in_err-insert-clause-refused : goal.returns-in_err-insert-clause-refused
 returns-in_err-insert-clause-refused g c clean up =
