@@ -221,6 +221,6 @@ module _ (schema after : Schema) (l : OldLayout) (old new : Trees) (id : ℤ) (i
       | inr beside ↦ besides rule t has beside
     ]);
     indexed = all_from _ after.indexes (λ i has.
-    let kept = all_has _ after.indexes i moved.kept has in
-    rw (same i.table kept.1, same i.tree kept.2) (all_has _ schema.indexes i obeys.indexed kept.0));
+        let kept = all_has _ after.indexes i moved.kept has in
+        rw (same i.table kept.1, same i.tree kept.2) (all_has _ schema.indexes i obeys.indexed kept.0));
   }
