@@ -265,7 +265,8 @@ pub(crate) fn read_files<S: Store>(
 ) -> Result<OldFiles, StoreFault>
     ensures files { OnCleanStore S.Store store.old store.new (λ old new. IfOk result (λ files. AreFiles files (old.trees tree))) }
     ensures moved { OnCleanStore S.Store store.old store.new (λ old new. OnOk result (CanMove names.now (old.trees tree))) }
-    ensures whole { OnCleanStore S.Store store.old store.new (λ old new. OnOk result (CanBelong jobs.now paths.now names.now (old.trees tree))) }
+    ensures whole { OnCleanStore S.Store store.old store.new (λ old new. OnOk result
+        (CanBelong jobs.now paths.now names.now (old.trees tree))) }
     ensures reads { OnCleanStore S.Store store.old store.new (λ old new. OnOk result (Reads old new)) }
     ensures kept { CommitsNothing S.Store store.old store.new }
 {

@@ -123,7 +123,8 @@ pub(crate) fn read_spans<S: Store>(
     tree: u32,
     media: &NameTable,
 ) -> Result<Vec<Shown>, StoreFault>
-    ensures spans { OnCleanStore S.Store store.old store.new (λ old new. IfOk result (λ spans. ShowSpans media.now (old.trees tree) spans.items)) }
+    ensures spans { OnCleanStore S.Store store.old store.new (λ old new. IfOk result
+        (λ spans. ShowSpans media.now (old.trees tree) spans.items)) }
     ensures reads { OnCleanStore S.Store store.old store.new (λ old new. OnOk result (Reads old new)) }
     ensures kept { CommitsNothing S.Store store.old store.new }
 {
