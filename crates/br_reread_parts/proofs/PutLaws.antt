@@ -1,7 +1,9 @@
 -- A file that is put part by part.
-use Rattle.std.proofs.Common.{List, Option, Result, Ok, Err}
+use Rattle.std.proofs.Common.{◌≡◌, List, Option, Some, Result, Ok, Err, ap}
 use Rattle.std.specs.Prelude.{OnErr, OnOk}
 use Rattle.br_model.specs.File.{Item}
+use Rattle.br_model.proofs.AnswerLaws.{err_is}
+use Rattle.br_sink.specs.declared.file_parts.PartsFault.{PartsFault}
 use Rattle.br_reread_parts.specs.FileParts.{PutsAlike}
 
 -- a file like this one, if more is given
@@ -17,3 +19,13 @@ ok_weaker (Err e) so p = tt
 pub err_anyway : {A E P : Type 0} (r : Result A E) → P → OnErr r P
 err_anyway (Ok x) p = tt
 err_anyway (Err e) p = p
+
+-- the same fault of another result
+pub err_again : {A B : Type 0} (m n : PartsFault) → ◌≡◌ {A = Result A PartsFault} (Err m) (Err n) → ◌≡◌ {A = Result B PartsFault} (Err m) (Err n)
+err_again m n is = ap (λ (f : PartsFault). Err f) (err_is m n is)
+
+pub fault_is : (m n : PartsFault) → ◌≡◌ {A = Option PartsFault} (Some m) (Some n) → m ≡ n
+fault_is m n is = cc
+
+pub err_of_some : {B : Type 0} (m n : PartsFault) → ◌≡◌ {A = Option PartsFault} (Some m) (Some n) → ◌≡◌ {A = Result B PartsFault} (Err m) (Err n)
+err_of_some m n is = ap (λ (f : PartsFault). Err f) (fault_is m n is)

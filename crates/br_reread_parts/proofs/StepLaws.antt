@@ -1,5 +1,5 @@
 -- A file that is read, digested and written one window after another.
-use Rattle.std.proofs.Common.{◌≡◌, ◌+◌, ℕ, List, [], ◌++◌, length, Option, refl, sym, ap, subst, ◌∙◌, append_assoc, append-nil, length-append, arith}
+use Rattle.std.proofs.Common.{◌≡◌, ◌<◌, ◌+◌, ℕ, List, [], ◌++◌, length, Option, refl, sym, ap, subst, ◌∙◌, append_assoc, append-nil, length-append, arith}
 use Rattle.std.specs.Io.KnownBytes.{Appends}
 use Rattle.std.proofs.KnownBytes.{Appends-nil, Appends-trans}
 use Rattle.br_model.specs.File.{Item}
@@ -11,7 +11,7 @@ use Rattle.br_data.specs.ManyDrives.{GoOn, RereadingMany}
 use Rattle.br_sink.specs.FileParts.{WritesSome}
 use Rattle.br_reread_parts.specs.FileParts.{GivesFile, WritesFew}
 use Rattle.br_reread_parts.specs.Given.{GivesHits}
-use Rattle.br_reread_parts.specs.Steps.{OpensFile, PutsOn, Step, WritesOn, end_of, step_of}
+use Rattle.br_reread_parts.specs.Steps.{Fits, FitsAhead, OpensFile, PutsOn, Step, WritesOn, end_of, step_of}
 use Rattle.br_reread_parts.specs.Windows.{data_bytes}
 use Rattle.br_reread_parts.specs.declared.ahead.Ahead.{Ahead}
 use Rattle.br_reread_parts.proofs.GivenLaws.{hits_kept}
@@ -108,6 +108,33 @@ few_on m a b c x y puts few = few_more a b c puts.bytes x.left y.left puts.left 
 -- no more bytes were written than may follow
 pub few_put : (m : RereadingMany) (a b : Option (List ℕ)) (x y : Step) → PutsOn m a b x y → WritesFew x.left a b
 few_put m a b x y puts = few_these a b puts.bytes x.left y.left puts.left puts.written
+
+-- ---- bytes that are not more than may follow
+
+-- what fits still fits after some of it was written
+pub fits_on : StandingStays → (m later : RereadingMany) (a b : Option (List ℕ)) (x y : Step) → GoOn m later → PutsOn m a b x y → Fits m x → Fits later y
+fits_on stays m later a b x y on puts fits =
+    let same = ap length (puts.same fits.0) in
+    let all = length-append puts.bytes (y.next ++ plain_bytes (fragments y.rest)) in
+    let few = fits.1 in
+    let left = puts.left in
+    (hits_kept stays m later y.rest on (puts.given m fits.0), omega (arith, same, all, few, left))
+
+-- and after some calls
+pub fits_kept : StandingStays → (m later : RereadingMany) (x : Step) → GoOn m later → Fits m x → Fits later x
+fits_kept stays m later x on fits = (hits_kept stays m later x.rest on fits.0, fits.1)
+
+-- the data that are next fit, too
+pub next_fits : (m : RereadingMany) (x : Step) → Fits m x → x.left < length x.next → ⊥
+next_fits m x fits more = let all = length-append x.next (plain_bytes (fragments x.rest)) in let few = fits.1 in omega (arith, all, few, more)
+
+-- a file that is given as it was found fits after its first data were read
+pub opened_fits : StandingStays → (m later : RereadingMany) (hits : List Hit) (item : Item) (ahead : Ahead) → GoOn m later → OpensFile m hits item ahead → GivesFile m hits item
+    → FitsAhead later ahead
+opened_fits stays m later hits item ahead on opened given =
+    let same = ap length (opened.same given.0 ∙ sym given.1) in
+    let left = opened.left in
+    (hits_kept stays m later ahead.rest.now on (opened.given m given.0), omega (arith, same, left))
 
 -- ---- a file that is read to its end
 

@@ -12,7 +12,7 @@ use Rattle.br_sink.specs.declared.two_parts.TwoPut.{TwoPut}
 use Rattle.br_sink.specs.declared.two_parts.TwoPut.TheVariants.{Both, One, Neither}
 use Rattle.br_reread_parts.specs.FileParts.{WritesFew}
 use Rattle.br_reread_parts.specs.Steps.{IfBoth, IfPut, OpensFile, PutsOn, Step, end_of, step_of}
-use Rattle.br_reread_parts.specs.TwoParts.{ComesOf, EndsAs, GivesTwo}
+use Rattle.br_reread_parts.specs.TwoParts.{AreReadSame, ComesOf, EndsAs, GivesTwo}
 use Rattle.br_reread_parts.specs.declared.ahead.Ahead.{Ahead}
 use Rattle.br_reread_parts.proofs.PartLaws.{some_of_few}
 use Rattle.br_reread_parts.proofs.StepLaws.{whole_same, whole_written}
@@ -71,6 +71,34 @@ same_two stays (One p why) (Ok fault) m later hits more one other a b c d x y r 
     comes.0 ∙ whole_same stays m later hits one a b x r first k on new_x opened_x puts_x given.0
 same_two stays (One p why) (Err _) m later hits more one other a b c d x y r s first second k l on new_x new_y opened_x opened_y puts_x puts_y comes given = absurd comes
 same_two stays (Neither why) end m later hits more one other a b c d x y r s first second k l on new_x new_y opened_x opened_y puts_x puts_y comes given = tt
+
+-- what was read of two files is their bytes, if these are given
+pub read_same : StandingStays → (end : Result (Option PartsFault) PartsFault) (m later : RereadingMany) (hits more : List Hit) (one other : Item)
+    (a b c d : Option (List ℕ)) (x y : Ahead) (r s first second : List ℕ) (k l : ℕ) → GoOn m later → r ≡ [] → s ≡ [] → OpensFile m hits one x → OpensFile m more other y
+    → IfOk end (λ _. PutsOn later a b (step_of r x) (end_of first k)) → IfBoth end (PutsOn later c d (step_of s y) (end_of second l))
+    → GivesTwo m hits more one other → AreReadSame end first second one other
+read_same stays (Ok None) m later hits more one other a b c d x y r s first second k l on new_x new_y opened_x opened_y puts_x puts_y given = (
+  whole_same stays m later hits one a b x r first k on new_x opened_x puts_x given.0,
+  whole_same stays m later more other c d y s second l on new_y opened_y puts_y given.1,
+)
+read_same stays (Ok (Some why)) m later hits more one other a b c d x y r s first second k l on new_x new_y opened_x opened_y puts_x puts_y given =
+    whole_same stays m later hits one a b x r first k on new_x opened_x puts_x given.0
+read_same stays (Err why) m later hits more one other a b c d x y r s first second k l on new_x new_y opened_x opened_y puts_x puts_y given = tt
+
+-- what was read of the first file is its bytes
+pub first_same : (fault : Option PartsFault) (first second : List ℕ) (one other : Item) → AreReadSame (Ok fault) first second one other → first ≡ one.bytes
+first_same None first second one other same = same.0
+first_same (Some why) first second one other same = same
+
+-- and of the second one, if it did not fail
+pub second_same : (fault : Option PartsFault) (first second : List ℕ) (one other : Item) → AreReadSame (Ok fault) first second one other → IfPut fault (second ≡ other.bytes)
+second_same None first second one other same = same.1
+second_same (Some why) first second one other same = tt
+
+-- what follows if the second file did not fail, follows
+pub put_of_none : {P : Type 0} (fault : Option PartsFault) → fault ≡ None → IfPut fault P → P
+put_of_none None is claim = claim
+put_of_none (Some why) is claim = absurd (cc)
 
 -- if the second file did not fail, what follows for both holds
 pub both_of : {P : Type 0} (fault : Option PartsFault) → false ≡ is_some fault → IfBoth (Ok fault) P → P

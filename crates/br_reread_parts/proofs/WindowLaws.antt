@@ -1,5 +1,5 @@
 -- Windows of data, one after another.
-use Rattle.std.proofs.Common.{◌≡◌, ◌<◌, ◌+◌, ℕ, List, [], ◌∷◌, ◌++◌, flat_map, take, length, get_or, refl, sym, ap, subst, ◌∙◌, append_assoc, arith}
+use Rattle.std.proofs.Common.{◌≡◌, ◌<◌, ◌≤◌, ◌+◌, ℕ, zero, suc, List, [], ◌∷◌, ◌++◌, flat_map, take, length, get_or, refl, sym, ap, subst, ◌∙◌, append_assoc, length-append, arith}
 use Rattle.std.specs.Prelude.{nat_abs}
 use Rattle.std.proofs.lemmas.List.{append-nil, take_more}
 use Rattle.br_model.specs.Meaning.{Hit}
@@ -21,6 +21,15 @@ pub one_more : (window : List Kept) (i : ℕ) (x : Kept) → i < length window �
 one_more window i x within is =
     sym (flat_more (λ (d : Kept). d.bytes) (take i window) x)
     ∙ ap data_bytes (ap (λ (d : Kept). take i window ++ d ∷ []) is ∙ sym (take_more window i x within))
+
+after_same : (x a b : List ℕ) → length a ≤ length b → length (x ++ a) ≤ length (x ++ b)
+after_same x a b few = let one = length-append x a in let other = length-append x b in omega (arith, few, one, other)
+
+-- the first data have no more bytes than all
+pub first_fewer : (n : ℕ) (window : List Kept) → length (data_bytes (take n window)) ≤ length (data_bytes window)
+first_fewer zero window = omega arith
+first_fewer (suc n) [] = omega arith
+first_fewer (suc n) (x ∷ xs) = after_same x.bytes (data_bytes (take n xs)) (data_bytes xs) (first_fewer n xs)
 
 -- the plain data of some hits and of those after them
 pub plain_both : (xs ys : List Hit) → plain_bytes (fragments (xs ++ ys)) ≡ plain_bytes (fragments xs) ++ plain_bytes (fragments ys)

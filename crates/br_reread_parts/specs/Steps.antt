@@ -61,7 +61,20 @@ pub record OpensFile (many : RereadingMany) (hits : List Hit) (item : Item) (ahe
   pub given : (later : RereadingMany) → GivesHits later hits → GivesHits later ahead.rest.now
   pub same : GivesHits many hits → data_bytes ahead.window.items ++ plain_bytes (fragments ahead.rest.now) ≡ plain_bytes (fragments hits)
 
+-- the hits after the next data are given, and the bytes of the file that are left are not more than may follow
+abbrev pub Fits : RereadingMany → Step → Type 0
+Fits many x = GivesHits many x.rest × (length (x.next ++ plain_bytes (fragments x.rest)) ≤ x.left)
+
+-- the same of the data that are next
+abbrev pub FitsAhead : RereadingMany → Ahead → Type 0
+FitsAhead many ahead = Fits many (step_of [] ahead)
+
 -- ---- two files
+
+-- why one of two files failed, if one did
+abbrev pub either_fault : Result (Option PartsFault) PartsFault → Option PartsFault
+either_fault (Ok fault) = fault
+either_fault (Err why) = Some why
 
 -- what follows if neither of two files failed; the second file's fault is a result
 abbrev pub IfBoth : Result (Option PartsFault) PartsFault → Type 0 → Type 0

@@ -4,10 +4,14 @@ use Rattle.br_model.specs.File.{Item}
 use Rattle.br_model.specs.Meaning.{Hit}
 use Rattle.br_data.specs.ManyDrives.{RereadingMany}
 use Rattle.br_sink.specs.FileParts.{AreAlike}
+use Rattle.br_sink.specs.TwoParts.{why_of}
 use Rattle.br_sink.specs.declared.file_parts.PartsFault.{PartsFault}
+use Rattle.br_sink.specs.declared.file_parts.PartsFault.TheVariants as parts
 use Rattle.br_sink.specs.declared.two_parts.TwoPut.{TwoPut}
 use Rattle.br_sink.specs.declared.two_parts.TwoPut.TheVariants.{Both, One, Neither}
 use Rattle.br_reread_parts.specs.FileParts.{GivesFile}
+use Rattle.br_reread_parts.specs.Steps.{FitsAhead}
+use Rattle.br_reread_parts.specs.declared.both.BothAhead.{BothAhead}
 use Rattle.br_reread_parts.specs.declared.both.PlainFile.{PlainFile}
 
 -- the hits of both files are read again as they were found, and their plain data are the bytes of the files
@@ -17,6 +21,20 @@ GivesTwo many hits more one other = GivesFile many hits one × GivesFile many mo
 -- the same holds for these two files
 abbrev pub GivesPlain : RereadingMany → PlainFile → PlainFile → Type 0
 GivesPlain many one other = GivesTwo many one.hits.now other.hits.now one.item.now other.item.now
+
+-- the next data of both files and what comes after them fit
+abbrev pub FitBoth : RereadingMany → BothAhead → Type 0
+FitBoth many next = FitsAhead many next.one × FitsAhead many next.other
+
+-- what was read of the files that did not fail is the bytes of the items
+abbrev pub AreReadSame : Result (Option PartsFault) PartsFault → List ℕ → List ℕ → Item → Item → Type 0
+AreReadSame (Ok None) first second one other = (first ≡ one.bytes) × (second ≡ other.bytes)
+AreReadSame (Ok (Some _)) first second one other = first ≡ one.bytes
+AreReadSame (Err _) first second one other = ⊤
+
+-- a file of the two counts as changed only if this fault says so
+abbrev pub IsChangedBy : TwoPut → Option PartsFault → Type 0
+IsChangedBy two fault = why_of two ≡ Some parts.Changed → fault ≡ Some parts.Changed
 
 -- these are the bytes that were read, as many as the item has, with the same digest
 abbrev pub AreRead : List ℕ → List ℕ → Item → Type 0

@@ -1,9 +1,11 @@
 //! A file whose data are written a window at a time, while those of the next window are read.
-ghost use Rattle.std.specs.Prelude.{◌≡◌, ◌++◌, IfOk, OnOk};
-ghost use Rattle.br_data.specs.ManyDrives.{GoOn};
+ghost use Rattle.std.specs.Prelude.{◌≡◌, ◌<◌, ◌++◌, length, Err, IfOk, OnOk};
+ghost use Rattle.br_data.specs.ManyDrives.{GoOn, HaveFailed};
 ghost use Rattle.br_sink.specs.FileParts.{AreAlike};
+ghost use Rattle.br_sink.specs.declared.file_parts.PartsFault.TheVariants as why;
 ghost use Rattle.br_reread_parts.specs.FileParts.{WritesFew};
-ghost use Rattle.br_reread_parts.specs.Steps.{EndsOn, OpensFile, PutsOn, PutsRest, WritesOn, end_of, step_of};
+ghost use Rattle.br_reread_parts.specs.Given.{GivesHits};
+ghost use Rattle.br_reread_parts.specs.Steps.{EndsOn, FitsAhead, OpensFile, PutsOn, PutsRest, WritesOn, end_of, step_of};
 ghost use Rattle.br_reread_parts.specs.Windows.{data_bytes};
 
 use crate::file_windows::{read_window, write_window};
@@ -40,6 +42,8 @@ pub(crate) fn open_file<'h, D: Drive>(
     item: &Item,
 ) -> Result<Ahead<'h>, PartsFault>
     ensures opened { IfOk result (OpensFile many.old hits.now item.now) }
+    ensures changed { result ≡ Err why.Changed → GivesHits many.old hits.now → ⊥ }
+    ensures lost { result ≡ Err why.NoDriveLeft → HaveFailed many.old many.new }
     ensures on { GoOn many.old many.new }
 {
     let first = cut_window(hits, PUT);
@@ -65,6 +69,8 @@ pub(crate) fn write_ahead<D: Drive, W: Write>(
 ) -> Result<(), PartsFault>
     ensures written { OnOk result (WritesOn many.old (W.contents writer.old) (W.contents writer.new) ahead.old ahead.new) }
     ensures front { WritesFew ahead.old.left (W.contents writer.old) (W.contents writer.new) }
+    ensures changed { result ≡ Err why.Changed → FitsAhead many.old ahead.old → ⊥ }
+    ensures lost { result ≡ Err why.NoDriveLeft → HaveFailed many.old many.new }
     ensures on { GoOn many.old many.new }
 {
     let next = cut_window(ahead.rest, PUT);
@@ -91,6 +97,8 @@ fn put_ahead_beside<D: Drive, W: Write>(
     ensures digested { OnOk result (reading.new ≡ reading.old ++ data_bytes ahead.old.window.items) }
     ensures written { OnOk result (WritesOn many.old (W.contents writer.old) (W.contents writer.new) ahead.old ahead.new) }
     ensures front { WritesFew ahead.old.left (W.contents writer.old) (W.contents writer.new) }
+    ensures changed { result ≡ Err why.Changed → FitsAhead many.old ahead.old → ⊥ }
+    ensures lost { result ≡ Err why.NoDriveLeft → HaveFailed many.old many.new }
     ensures on { GoOn many.old many.new }
 {
     let shared = share_window(ahead.alloc, &ahead.window)?;
@@ -116,6 +124,8 @@ fn put_last_ahead<W: Write>(
 ) -> Result<(), PartsFault>
     ensures put { OnOk result (EndsOn (W.contents writer.old) (W.contents writer.new) reading.old reading.new ahead.old ahead.new) }
     ensures front { WritesFew ahead.old.left (W.contents writer.old) (W.contents writer.new) }
+    ensures changed { result ≡ Err why.Changed → ahead.old.left < length (data_bytes ahead.old.window.items) }
+    ensures lost { result ≡ Err why.NoDriveLeft → ⊥ }
 {
     digest_window(reading, &ahead.window)?;
     write_window(&mut ahead.left, &ahead.window, writer)?;
@@ -128,7 +138,7 @@ fn put_last_ahead<W: Write>(
 /// # Errors
 ///
 /// As `put_ahead_beside`.
-#[tactic(auto, using(br_data::proofs::GoOnLaws::go_itself, br_data::proofs::GoOnLaws::go_more))]
+#[tactic(auto, using(br_data::proofs::GoOnLaws::go_itself, br_data::proofs::GoOnLaws::go_more, br_data::proofs::GoOnLaws::failed_on))]
 pub(crate) fn put_rest<D: Drive, W: Write>(
     rt: &impl Threads,
     many: &mut OverMany<'_, D>,
@@ -138,6 +148,8 @@ pub(crate) fn put_rest<D: Drive, W: Write>(
 ) -> Result<(), PartsFault>
     ensures put { OnOk result (PutsRest W.contents many.old writer.old writer.new reading.old ahead.old reading.new ahead.new) }
     ensures front { WritesFew ahead.old.left (W.contents writer.old) (W.contents writer.new) }
+    ensures changed { result ≡ Err why.Changed → FitsAhead many.old ahead.old → ⊥ }
+    ensures lost { result ≡ Err why.NoDriveLeft → HaveFailed many.old many.new }
     ensures on { GoOn many.old many.new }
 {
     standing_stays();
@@ -152,15 +164,17 @@ pub(crate) fn put_rest<D: Drive, W: Write>(
 ///
 /// # Errors
 ///
-/// `NoDriveLeft` if they differ.
+/// `Changed` if they differ.
 pub(crate) fn finish(alloc: Global, reading: Reading, item: &Item) -> Result<FileBytes, PartsFault>
     ensures bytes { IfOk result (λ bytes. bytes ≡ reading) }
+    ensures changed { result ≡ Err why.Changed → reading ≡ item.now.bytes → ⊥ }
+    ensures lost { result ≡ Err why.NoDriveLeft → ⊥ }
     ensures alike { IfOk result (λ bytes. AreAlike bytes item.now.bytes) }
 {
     let bytes = reading.finish(alloc);
     if are_alike(&bytes, &item.bytes) {
         Ok(bytes)
     } else {
-        Err(PartsFault::NoDriveLeft)
+        Err(PartsFault::Changed)
     }
 }

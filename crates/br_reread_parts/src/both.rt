@@ -1,9 +1,13 @@
 //! Two files whose data are written side by side, a window of each at a time. This thread writes
 //! the data of both and reads those of the next windows, while two other threads digest the former.
-ghost use Rattle.std.specs.Prelude.{◌≡◌, ◌++◌, IfOk};
-ghost use Rattle.br_data.specs.ManyDrives.{GoOn};
+ghost use Rattle.std.specs.Prelude.{◌≡◌, ◌++◌, Some, Err, IfOk};
+ghost use Rattle.br_data.specs.ManyDrives.{GoOn, HaveFailed};
+ghost use Rattle.br_sink.specs.declared.file_parts.PartsFault.TheVariants as why;
 ghost use Rattle.br_reread_parts.specs.FileParts.{WritesFew};
-ghost use Rattle.br_reread_parts.specs.Steps.{IfBoth, IfPut, OpensFile, PutsOn, PutsRest, PutsTo, WritesOn, end_of, step_of};
+ghost use Rattle.br_reread_parts.specs.Given.{GivesHits};
+ghost use Rattle.br_reread_parts.specs.Steps.{FitsAhead, IfBoth, IfPut, OpensFile, PutsOn, PutsRest, PutsTo, WritesOn};
+ghost use Rattle.br_reread_parts.specs.Steps.{either_fault, end_of, step_of};
+ghost use Rattle.br_reread_parts.specs.TwoParts.{FitBoth};
 ghost use Rattle.br_reread_parts.specs.Windows.{data_bytes};
 
 use crate::ahead::{Ahead, open_file, put_rest, write_ahead};
@@ -43,7 +47,7 @@ pub(crate) struct BothAhead<'h> {
 /// # Errors
 ///
 /// As `open_file`.
-#[tactic(auto, using(br_data::proofs::GoOnLaws::go_more))]
+#[tactic(auto, using(br_data::proofs::GoOnLaws::go_more, br_data::proofs::GoOnLaws::failed_on))]
 pub(crate) fn open_two<'h, D: Drive>(
     alloc: Global,
     many: &mut OverMany<'_, D>,
@@ -52,6 +56,8 @@ pub(crate) fn open_two<'h, D: Drive>(
 ) -> Result<BothAhead<'h>, PartsFault>
     ensures one { IfOk result (λ next. OpensFile many.old one.now.hits.now one.now.item.now next.one) }
     ensures other { IfOk result (λ next. OpensFile many.old other.now.hits.now other.now.item.now next.other) }
+    ensures changed { result ≡ Err why.Changed → GivesHits many.old one.now.hits.now → GivesHits many.old other.now.hits.now → ⊥ }
+    ensures lost { result ≡ Err why.NoDriveLeft → HaveFailed many.old many.new }
     ensures on { GoOn many.old many.new }
 {
     standing_stays();
@@ -78,6 +84,8 @@ fn write_both_ahead<D: Drive, W: Write>(
 ) -> Result<Option<PartsFault>, PartsFault>
     ensures one { IfOk result (λ _. WritesOn many.old (W.contents first.old) (W.contents first.new) next.old.one next.new.one) }
     ensures other { IfBoth result (WritesOn many.old (W.contents second.old) (W.contents second.new) next.old.other next.new.other) }
+    ensures changed { either_fault result ≡ Some why.Changed → FitBoth many.old next.old → ⊥ }
+    ensures lost { either_fault result ≡ Some why.NoDriveLeft → HaveFailed many.old many.new }
     ensures front_one { WritesFew next.old.one.left (W.contents first.old) (W.contents first.new) }
     ensures front_other { WritesFew next.old.other.left (W.contents second.old) (W.contents second.new) }
     ensures on { GoOn many.old many.new }
@@ -108,6 +116,8 @@ fn put_other_beside<D: Drive, W: Write>(
     ensures digested { IfOk result (λ _. reading.new ≡ reading.old ++ data_bytes next.old.other.window.items) }
     ensures one { IfOk result (λ _. WritesOn many.old (W.contents first.old) (W.contents first.new) next.old.one next.new.one) }
     ensures other { IfBoth result (WritesOn many.old (W.contents second.old) (W.contents second.new) next.old.other next.new.other) }
+    ensures changed { either_fault result ≡ Some why.Changed → FitBoth many.old next.old → ⊥ }
+    ensures lost { either_fault result ≡ Some why.NoDriveLeft → HaveFailed many.old many.new }
     ensures front_one { WritesFew next.old.one.left (W.contents first.old) (W.contents first.new) }
     ensures front_other { WritesFew next.old.other.left (W.contents second.old) (W.contents second.new) }
     ensures on { GoOn many.old many.new }
@@ -141,6 +151,8 @@ fn put_both_beside<D: Drive, W: Write>(
     ensures digested_other { IfOk result (λ _. read.new.other ≡ read.old.other ++ data_bytes next.old.other.window.items) }
     ensures one { IfOk result (λ _. WritesOn many.old (W.contents first.old) (W.contents first.new) next.old.one next.new.one) }
     ensures other { IfBoth result (WritesOn many.old (W.contents second.old) (W.contents second.new) next.old.other next.new.other) }
+    ensures changed { either_fault result ≡ Some why.Changed → FitBoth many.old next.old → ⊥ }
+    ensures lost { either_fault result ≡ Some why.NoDriveLeft → HaveFailed many.old many.new }
     ensures front_one { WritesFew next.old.one.left (W.contents first.old) (W.contents first.new) }
     ensures front_other { WritesFew next.old.other.left (W.contents second.old) (W.contents second.new) }
     ensures on { GoOn many.old many.new }
@@ -163,7 +175,7 @@ fn put_both_beside<D: Drive, W: Write>(
 /// # Errors
 ///
 /// As `put_both_beside`.
-#[tactic(auto, using(br_data::proofs::GoOnLaws::go_itself, br_data::proofs::GoOnLaws::go_more))]
+#[tactic(auto, using(br_data::proofs::GoOnLaws::go_itself, br_data::proofs::GoOnLaws::go_more, br_data::proofs::GoOnLaws::failed_on))]
 fn put_while_both<D: Drive, W: Write>(
     rt: &impl Threads,
     many: &mut OverMany<'_, D>,
@@ -175,6 +187,8 @@ fn put_while_both<D: Drive, W: Write>(
     ensures one { IfOk result (λ _. PutsTo W.contents many.old first.old first.new read.old.one next.old.one read.new.one next.new.one) }
     ensures other { IfBoth result (PutsTo W.contents many.old second.old second.new read.old.other next.old.other
         read.new.other next.new.other) }
+    ensures changed { either_fault result ≡ Some why.Changed → FitBoth many.old next.old → ⊥ }
+    ensures lost { either_fault result ≡ Some why.NoDriveLeft → HaveFailed many.old many.new }
     ensures front_one { WritesFew next.old.one.left (W.contents first.old) (W.contents first.new) }
     ensures front_other { WritesFew next.old.other.left (W.contents second.old) (W.contents second.new) }
     ensures on { GoOn many.old many.new }
@@ -197,6 +211,8 @@ fn put_other_rest<D: Drive, W: Write>(
     second: &mut W,
 ) -> Option<PartsFault>
     ensures other { IfPut result (PutsRest W.contents many.old second.old second.new reading.old ahead.old reading.new ahead.new) }
+    ensures changed { result ≡ Some why.Changed → FitsAhead many.old ahead.old → ⊥ }
+    ensures lost { result ≡ Some why.NoDriveLeft → HaveFailed many.old many.new }
     ensures front { WritesFew ahead.old.left (W.contents second.old) (W.contents second.new) }
     ensures on { GoOn many.old many.new }
 {
@@ -212,7 +228,7 @@ fn put_other_rest<D: Drive, W: Write>(
 /// # Errors
 ///
 /// As `put_both_beside`.
-#[tactic(auto, using(br_data::proofs::GoOnLaws::go_more))]
+#[tactic(auto, using(br_data::proofs::GoOnLaws::go_more, br_data::proofs::GoOnLaws::failed_on, crate::proofs::GivenLaws::failed_then))]
 pub(crate) fn put_both<D: Drive, W: Write>(
     rt: &impl Threads,
     many: &mut OverMany<'_, D>,
@@ -224,6 +240,8 @@ pub(crate) fn put_both<D: Drive, W: Write>(
     ensures one { IfOk result (λ _. PutsRest W.contents many.old first.old first.new read.old.one next.old.one read.new.one next.new.one) }
     ensures other { IfBoth result (PutsRest W.contents many.old second.old second.new read.old.other next.old.other
         read.new.other next.new.other) }
+    ensures changed { either_fault result ≡ Some why.Changed → FitBoth many.old next.old → ⊥ }
+    ensures lost { either_fault result ≡ Some why.NoDriveLeft → HaveFailed many.old many.new }
     ensures front_one { WritesFew next.old.one.left (W.contents first.old) (W.contents first.new) }
     ensures front_other { WritesFew next.old.other.left (W.contents second.old) (W.contents second.new) }
     ensures on { GoOn many.old many.new }

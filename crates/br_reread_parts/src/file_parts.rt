@@ -1,9 +1,10 @@
 //! A file of which the plain data are read again while it is put. While the data of one window are digested
 //! in another thread they are written, and those of the next one are read: these two are in memory.
-ghost use Rattle.std.specs.Prelude.{◌≡◌, IfOk, OnErr};
+ghost use Rattle.std.specs.Prelude.{◌≡◌, Err, IfOk, OnErr};
 ghost use Rattle.std.specs.Io.KnownBytes.{Appends};
-ghost use Rattle.br_data.specs.ManyDrives.{GoOn};
+ghost use Rattle.br_data.specs.ManyDrives.{GoOn, HaveFailed};
 ghost use Rattle.br_sink.specs.FileParts.{AreAlike, WritesSome};
+ghost use Rattle.br_sink.specs.declared.file_parts.PartsFault.TheVariants as why;
 ghost use Rattle.br_reread_parts.specs.FileParts.{GivesFile};
 
 use crate::ahead::{finish, open_file, put_rest};
@@ -34,6 +35,8 @@ fn write_file<D: Drive, W: Write>(
     ensures alike { IfOk result (λ bytes. AreAlike bytes item.now.bytes) }
     ensures same { IfOk result (λ bytes. GivesFile many.old hits.now item.now → bytes ≡ item.now.bytes) }
     ensures front { OnErr result (WritesSome item.now.bytes (W.contents writer.old) (W.contents writer.new)) }
+    ensures changed { result ≡ Err why.Changed → GivesFile many.old hits.now item.now → ⊥ }
+    ensures lost { result ≡ Err why.NoDriveLeft → HaveFailed many.old many.new }
     ensures on { GoOn many.old many.new }
 {
     standing_stays();
@@ -80,13 +83,15 @@ impl<'h, 'b, D: Drive, R: Threads> FileParts<'h, 'b, D, R> {
 }
 
 impl<'h, 'b, D: Drive, R: Threads> Parts for FileParts<'h, 'b, D, R> {
-    ghost use Rattle.br_data.specs.ManyDrives.{GoOn};
+    ghost use Rattle.br_data.specs.ManyDrives.{GoOn, HaveFailed};
     ghost use Rattle.br_data.proofs.GoOnLaws.{go_itself};
     ghost use Rattle.br_reread_parts.specs.FileParts.{GivesFile};
 
     ghost gives = { λ p item. GivesFile p.many p.hits.now item };
 
     ghost goes_on = { λ p q. GoOn p.many q.many };
+
+    ghost loses = { λ p q. HaveFailed p.many q.many };
 
     fn write_to<W: Write>(&mut self, item: &Item, writer: &mut W) -> Result<FileBytes, PartsFault> {
         write_file(self.rt, self.alloc, &mut self.many, self.hits, item, writer)

@@ -1,9 +1,10 @@
 //! Windows of a file of which the plain data are read again and written.
-ghost use Rattle.std.specs.Prelude.{◌≡◌, ◌+◌, length, IfOk, OnErr, OnOk};
+ghost use Rattle.std.specs.Prelude.{◌≡◌, ◌+◌, ◌<◌, length, Err, IfOk, OnErr, OnOk};
 ghost use Rattle.std.specs.Io.KnownBytes.{Appends};
 ghost use Rattle.br_join.specs.Plain.{plain_bytes};
 ghost use Rattle.br_records.specs.Records.{fragments};
-ghost use Rattle.br_data.specs.ManyDrives.{GoOn};
+ghost use Rattle.br_data.specs.ManyDrives.{GoOn, HaveFailed};
+ghost use Rattle.br_sink.specs.declared.file_parts.PartsFault.TheVariants as why;
 ghost use Rattle.br_reread_parts.specs.FileParts.{WritesFew};
 ghost use Rattle.br_reread_parts.specs.Given.{GivesHit, GivesHits};
 ghost use Rattle.br_reread_parts.specs.Windows.{AppendsPlain, data_bytes};
@@ -19,7 +20,10 @@ use std::io;
 use std::io::{ErrorKind, Write};
 
 /// Returns the fault of a file whose writer failed.
-fn write_fault(error: io::Error) -> PartsFault {
+fn write_fault(error: io::Error) -> PartsFault
+    ensures changed { result ≡ why.Changed → ⊥ }
+    ensures lost { result ≡ why.NoDriveLeft → ⊥ }
+{
     match error.kind() {
         ErrorKind::OutOfMemory => PartsFault::Memory,
         _ => PartsFault::Fault,
@@ -30,19 +34,23 @@ fn write_fault(error: io::Error) -> PartsFault {
 ///
 /// # Errors
 ///
-/// `NoDriveLeft` if no drive gives as many bytes, and `Memory` if memory runs out.
+/// `NoDriveLeft` if each drive failed, `Changed` if a volume no longer has as many bytes at the place, and
+/// `Memory` if memory runs out.
 fn read_part<D: Drive>(
     alloc: Global,
     many: &mut OverMany<'_, D>,
     hit: &Hit,
 ) -> Result<Data, PartsFault>
     ensures same { IfOk result (λ read. GivesHit many.old hit.now → read.bytes ≡ hit.now.fragment.bytes) }
+    ensures changed { result ≡ Err why.Changed → GivesHit many.old hit.now → ⊥ }
+    ensures lost { result ≡ Err why.NoDriveLeft → HaveFailed many.old many.new }
     ensures on { GoOn many.old many.new }
 {
     match many.read(alloc, hit.spot, &hit.data) {
         Ok(read) => Ok(read),
         Err(AgainFault::Memory) => Err(PartsFault::Memory),
-        Err(AgainFault::Failed | AgainFault::Changed) => Err(PartsFault::NoDriveLeft),
+        Err(AgainFault::Failed) => Err(PartsFault::NoDriveLeft),
+        Err(AgainFault::Changed) => Err(PartsFault::Changed),
     }
 }
 
@@ -59,6 +67,8 @@ fn push_part<D: Drive>(
     window: &mut Vec<Data>,
 ) -> Result<(), PartsFault>
     ensures same { OnOk result (GivesHit many.old hit.now → AppendsPlain window.old.items window.new.items hit.now.fragment) }
+    ensures changed { result ≡ Err why.Changed → GivesHit many.old hit.now → ⊥ }
+    ensures lost { result ≡ Err why.NoDriveLeft → HaveFailed many.old many.new }
     ensures on { GoOn many.old many.new }
 {
     if hit.stream.unsigned_abs() != DATA {
@@ -74,13 +84,15 @@ fn push_part<D: Drive>(
 /// # Errors
 ///
 /// As `push_part`.
-#[tactic(auto, using(br_data::proofs::GoOnLaws::go_itself, br_data::proofs::GoOnLaws::go_more))]
+#[tactic(auto, using(br_data::proofs::GoOnLaws::go_itself, br_data::proofs::GoOnLaws::go_more, br_data::proofs::GoOnLaws::failed_on))]
 pub(crate) fn read_window<D: Drive>(
     alloc: Global,
     many: &mut OverMany<'_, D>,
     hits: &[Hit],
 ) -> Result<Vec<Data>, PartsFault>
     ensures same { IfOk result (λ read. GivesHits many.old hits.now → data_bytes read.items ≡ plain_bytes (fragments hits.now)) }
+    ensures changed { result ≡ Err why.Changed → GivesHits many.old hits.now → ⊥ }
+    ensures lost { result ≡ Err why.NoDriveLeft → HaveFailed many.old many.new }
     ensures on { GoOn many.old many.new }
 {
     standing_stays();
@@ -95,15 +107,16 @@ pub(crate) fn read_window<D: Drive>(
 ///
 /// # Errors
 ///
-/// `NoDriveLeft` if they are more than may follow. `Fault` if the writer failed, and `Memory` if memory
-/// ran out.
+/// `Changed` if they are more than may follow. `Fault` if the writer failed, and `Memory` if memory ran out.
 fn write_next<W: Write>(left: &mut u64, bytes: &[u8], writer: &mut W) -> Result<(), PartsFault>
     ensures left { OnOk result (left.new + length bytes.now ≡ left.old) }
     ensures written { OnOk result (Appends (W.contents writer.old) (W.contents writer.new) bytes.now) }
+    ensures changed { result ≡ Err why.Changed → left.old < length bytes.now }
+    ensures lost { result ≡ Err why.NoDriveLeft → ⊥ }
     ensures front { OnErr result (WritesFew left.old (W.contents writer.old) (W.contents writer.new)) }
 {
     let Some(rest) = left.checked_sub(bytes.len() as u64) else {
-        return Err(PartsFault::NoDriveLeft);
+        return Err(PartsFault::Changed);
     };
     if let Err(error) = write_bytes(writer, bytes) {
         return Err(write_fault(error));
@@ -120,6 +133,8 @@ fn write_next<W: Write>(left: &mut u64, bytes: &[u8], writer: &mut W) -> Result<
 fn write_data<W: Write>(left: &mut u64, found: &Data, writer: &mut W) -> Result<(), PartsFault>
     ensures left { OnOk result (left.new + length found.now.bytes ≡ left.old) }
     ensures written { OnOk result (Appends (W.contents writer.old) (W.contents writer.new) found.now.bytes) }
+    ensures changed { result ≡ Err why.Changed → left.old < length found.now.bytes }
+    ensures lost { result ≡ Err why.NoDriveLeft → ⊥ }
     ensures front { OnErr result (WritesFew left.old (W.contents writer.old) (W.contents writer.new)) }
 {
     match found.held() {
@@ -140,6 +155,8 @@ pub(crate) fn write_window<W: Write>(
 ) -> Result<(), PartsFault>
     ensures left { OnOk result (left.new + length (data_bytes window.now) ≡ left.old) }
     ensures written { OnOk result (Appends (W.contents writer.old) (W.contents writer.new) (data_bytes window.now)) }
+    ensures changed { result ≡ Err why.Changed → left.old < length (data_bytes window.now) }
+    ensures lost { result ≡ Err why.NoDriveLeft → ⊥ }
     ensures front { WritesFew left.old (W.contents writer.old) (W.contents writer.new) }
 {
     for found in window {

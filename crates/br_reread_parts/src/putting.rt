@@ -1,9 +1,9 @@
 //! Files that are put into a sink part by part.
 ghost use Rattle.std.specs.Prelude.{◌≡◌, ◌<◌, ◌≤◌, Err, IfSome, OnErr, OnOk};
-ghost use Rattle.br_data.specs.ManyDrives.{GoOn};
+ghost use Rattle.br_data.specs.ManyDrives.{GoOn, HaveFailed};
 ghost use Rattle.br_sink.specs.Sink.{HasMore};
-ghost use Rattle.br_sink.specs.TwoParts.{AreTwoAlike, AreTwoSame, FailsTwo, two_put};
-ghost use Rattle.br_sink.specs.declared.file_parts.PartsFault.TheVariants.{Fault};
+ghost use Rattle.br_sink.specs.TwoParts.{AreTwoAlike, AreTwoSame, FailsTwo, LosesTwo, NotChanged, two_put};
+ghost use Rattle.br_sink.specs.declared.file_parts.PartsFault.TheVariants.{Changed, Fault, NoDriveLeft};
 ghost use Rattle.br_reread_parts.specs.FileParts.{GivesFile, PutsAlike};
 ghost use Rattle.br_reread_parts.specs.TwoParts.{GivesPlain};
 
@@ -24,7 +24,8 @@ use std::thread::Threads;
 ///
 /// The sink has what it had; one that does not report its files may hold a part of this one.
 ///
-/// - `NoDriveLeft` if no drive is left that gives such data.
+/// - `NoDriveLeft` if each drive failed.
+/// - `Changed` if the data are no longer those that were found.
 /// - `Fault` if the sink failed.
 /// - `Memory` if memory ran out.
 pub fn put_plain<D: Drive, S: Sink>(
@@ -39,6 +40,8 @@ pub fn put_plain<D: Drive, S: Sink>(
     ensures refused { OnErr result (S.has sink.new ≡ S.has sink.old) }
     ensures counted { S.failures sink.old ≤ S.failures sink.new }
     ensures failed { result ≡ Err Fault → S.failures sink.old < S.failures sink.new }
+    ensures changed { result ≡ Err Changed → GivesFile many.old hits.now item.now → ⊥ }
+    ensures lost { result ≡ Err NoDriveLeft → HaveFailed many.old many.new }
     ensures on { GoOn many.old many.new }
 {
     let mut parts = FileParts::new(rt, alloc, hits, many.take(alloc));
@@ -69,6 +72,8 @@ pub fn put_two_plain<D: Drive, S: Sink>(
     ensures same { GivesPlain many.old one.now other.now → IfSome result (AreTwoSame one.now.item.now other.now.item.now) }
     ensures counted { S.failures sink.old ≤ S.failures sink.new }
     ensures failed { FailsTwo result → S.failures sink.old < S.failures sink.new }
+    ensures changed { GivesPlain many.old one.now other.now → IfSome result NotChanged }
+    ensures lost { LosesTwo result → HaveFailed many.old many.new }
     ensures on { GoOn many.old many.new }
 {
     let mut parts = BothParts::new(rt, alloc, one.hits, other.hits, many.take(alloc));

@@ -1,8 +1,10 @@
 //! Reads the data of two files again, side by side, while both are put.
-ghost use Rattle.std.specs.Prelude.{◌≡◌, None, Ok};
-ghost use Rattle.br_data.specs.ManyDrives.{GoOn};
-ghost use Rattle.br_sink.specs.TwoParts.{AreTwoAlike, AreTwoSame, WritesTwo, held_by};
-ghost use Rattle.br_reread_parts.specs.TwoParts.{ComesOf, EndsAs, GivesTwo};
+ghost use Rattle.std.specs.Prelude.{◌≡◌, None, Ok, Some};
+ghost use Rattle.br_data.specs.ManyDrives.{GoOn, HaveFailed};
+ghost use Rattle.br_sink.specs.TwoParts.{AreTwoAlike, AreTwoSame, IsLost, NotChanged, WritesTwo, held_by};
+ghost use Rattle.br_sink.specs.declared.file_parts.PartsFault.TheVariants as why;
+ghost use Rattle.br_reread_parts.specs.Steps.{IfPut, either_fault};
+ghost use Rattle.br_reread_parts.specs.TwoParts.{AreReadSame, ComesOf, EndsAs, GivesTwo, IsChangedBy};
 
 use crate::ahead::finish;
 use crate::both::{BothRead, PlainFile, open_two, put_both};
@@ -18,7 +20,9 @@ use std::thread::Threads;
 /// Returns the result for two files: the first was put with these bytes, and the second was read to
 /// its end.
 fn after_both(alloc: Global, one: FileBytes, reading: Reading, other: &Item) -> TwoPut
-    ensures { EndsAs result None one reading other.now }
+    ensures ends { EndsAs result None one reading other.now }
+    ensures changed { reading ≡ other.now.bytes → NotChanged result }
+    ensures lost { IsLost result → ⊥ }
 {
     match finish(alloc, reading, other) {
         Ok(bytes) => TwoPut::Both { one, other: bytes },
@@ -35,7 +39,9 @@ fn after_first(
     reading: Reading,
     other: &Item,
 ) -> TwoPut
-    ensures { EndsAs result fault one reading other.now }
+    ensures ends { EndsAs result fault one reading other.now }
+    ensures changed { IfPut fault (reading ≡ other.now.bytes) → IsChangedBy result fault }
+    ensures lost { IsLost result → fault ≡ Some why.NoDriveLeft }
 {
     match fault {
         Some(why) => TwoPut::One { one, why },
@@ -52,7 +58,9 @@ fn after_reading(
     one: &Item,
     other: &Item,
 ) -> TwoPut
-    ensures { ComesOf result (Ok fault) read.one read.other one.now other.now }
+    ensures comes { ComesOf result (Ok fault) read.one read.other one.now other.now }
+    ensures changed { AreReadSame (Ok fault) read.one read.other one.now other.now → IsChangedBy result fault }
+    ensures lost { IsLost result → fault ≡ Some why.NoDriveLeft }
 {
     let BothRead {
         one: first,
@@ -72,7 +80,9 @@ fn two_put(
     one: &Item,
     other: &Item,
 ) -> TwoPut
-    ensures { ComesOf result put read.one read.other one.now other.now }
+    ensures comes { ComesOf result put read.one read.other one.now other.now }
+    ensures changed { AreReadSame put read.one read.other one.now other.now → IsChangedBy result (either_fault put) }
+    ensures lost { IsLost result → either_fault put ≡ Some why.NoDriveLeft }
 {
     match put {
         Ok(fault) => after_reading(alloc, read, fault, one, other),
@@ -131,6 +141,8 @@ impl<'h, 'b, D: Drive, R: Threads> BothParts<'h, 'b, D, R> {
         ensures written { WritesTwo one.now other.now (held_by W.contents first.old second.old) (held_by W.contents first.new second.new) result }
         ensures alike { AreTwoAlike one.now other.now result }
         ensures same { GivesTwo self.old.many self.old.one.now self.old.other.now one.now other.now → AreTwoSame one.now other.now result }
+        ensures changed { GivesTwo self.old.many self.old.one.now self.old.other.now one.now other.now → NotChanged result }
+        ensures lost { IsLost result → HaveFailed self.old.many self.new.many }
         ensures on { GoOn self.old.many self.new.many }
     {
         standing_stays();
@@ -156,13 +168,15 @@ impl<'h, 'b, D: Drive, R: Threads> BothParts<'h, 'b, D, R> {
 }
 
 impl<'h, 'b, D: Drive, R: Threads> TwoParts for BothParts<'h, 'b, D, R> {
-    ghost use Rattle.br_data.specs.ManyDrives.{GoOn};
+    ghost use Rattle.br_data.specs.ManyDrives.{GoOn, HaveFailed};
     ghost use Rattle.br_data.proofs.GoOnLaws.{go_itself};
     ghost use Rattle.br_reread_parts.specs.TwoParts.{GivesTwo};
 
     ghost gives = { λ p one other. GivesTwo p.many p.one.now p.other.now one other };
 
     ghost goes_on = { λ p q. GoOn p.many q.many };
+
+    ghost loses = { λ p q. HaveFailed p.many q.many };
 
     fn write_both<W: Write>(
         &mut self,

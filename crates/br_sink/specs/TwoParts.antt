@@ -47,6 +47,15 @@ why_of (Neither why) = Some why
 abbrev pub NotChanged : TwoPut → Type 0
 NotChanged two = why_of two ≡ Some parts.Changed → ⊥
 
+-- a file of the two was not put since no drive is left
+abbrev pub IsLost : TwoPut → Type 0
+IsLost two = why_of two ≡ Some parts.NoDriveLeft
+
+-- the same, if the two were put side by side
+abbrev pub LosesTwo : Option TwoPut → Type 0
+LosesTwo None = ⊥
+LosesTwo (Some two) = IsLost two
+
 -- a file of the two was not put since the sink failed
 abbrev pub FailsTwo : Option TwoPut → Type 0
 FailsTwo None = ⊥

@@ -68,6 +68,9 @@ pub trait Parts {
     /// Its state before it read, and a state that it may have after that.
     ghost goes_on: { Self → Self → Type 0 };
 
+    /// Its state before it read, and one after each of its drives failed.
+    ghost loses: { Self → Self → Type 0 };
+
     /// Writes the bytes of the file, each part as it is read, and returns them; they are not in
     /// memory. They have the length and the digest of the item's bytes.
     ///
@@ -85,6 +88,7 @@ pub trait Parts {
         ensures same { IfOk result (λ bytes. gives self.old item.now → bytes ≡ item.now.bytes) }
         ensures front { OnErr result (WritesSome item.now.bytes (W.contents writer.old) (W.contents writer.new)) }
         ensures changed { result ≡ Err why.Changed → gives self.old item.now → ⊥ }
+        ensures lost { result ≡ Err why.NoDriveLeft → loses self.old self.new }
         ensures on { goes_on self.old self.new };
 
     /// The state may stay the same: then nothing was read.
@@ -101,6 +105,7 @@ fn read_all<P: Parts>(alloc: Global, item: &Item, parts: &mut P) -> Result<Vec<u
     ensures same { IfOk result (λ bytes. P.gives parts.old item.now → bytes.items ≡ item.now.bytes) }
     ensures never { result ≡ Err why.Fault → ⊥ }
     ensures changed { result ≡ Err why.Changed → P.gives parts.old item.now → ⊥ }
+    ensures lost { result ≡ Err why.NoDriveLeft → P.loses parts.old parts.new }
     ensures on { P.goes_on parts.old parts.new }
 {
     let mut bytes = Vec::new(alloc);
@@ -141,6 +146,7 @@ pub(crate) fn whole_of<P: Parts>(
     ensures same { IfOk result (λ made. P.gives parts.old item.now → made.bytes ≡ item.now.bytes) }
     ensures never { result ≡ Err why.Fault → ⊥ }
     ensures changed { result ≡ Err why.Changed → P.gives parts.old item.now → ⊥ }
+    ensures lost { result ≡ Err why.NoDriveLeft → P.loses parts.old parts.new }
     ensures on { P.goes_on parts.old parts.new }
 {
     let bytes = read_all(alloc, item, parts)?;

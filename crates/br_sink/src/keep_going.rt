@@ -5,7 +5,7 @@ ghost use Rattle.br_types.specs.declared.wanted.Stops.TheVariants.{AtFirst};
 ghost use Rattle.br_sink.specs.Delivery.{IsStopBelow, items_in, items_put};
 ghost use Rattle.br_sink.specs.FileParts.{AreAlike, with_bytes};
 ghost use Rattle.br_sink.specs.Sink.{HasMore};
-ghost use Rattle.br_sink.specs.TwoParts.{AreTwoAlike, AreTwoSame, FailsTwo, NotChanged, two_put};
+ghost use Rattle.br_sink.specs.TwoParts.{AreTwoAlike, AreTwoSame, FailsTwo, LosesTwo, NotChanged, two_put};
 ghost use Rattle.br_sink.specs.declared.fault.SinkFault.TheVariants.{Fault};
 ghost use Rattle.br_sink.specs.declared.file_parts.PartsFault.TheVariants as why;
 ghost use Rattle.br_sink.specs.KeepGoing.{ArePut};
@@ -125,6 +125,7 @@ impl<S: Sink + Drop> Sink for Leaving<S> {
         ensures counted { S.failures self.old.inner ≤ S.failures self.new.inner }
         ensures failed { result ≡ Err why.Fault → S.failures self.old.inner < S.failures self.new.inner }
         ensures changed { result ≡ Err why.Changed → P.gives parts.old item.now → ⊥ }
+        ensures lost { result ≡ Err why.NoDriveLeft → P.loses parts.old parts.new }
         ensures on { P.goes_on parts.old parts.new }
         ensures first { result ≡ Err why.Fault → self.old.stops ≡ AtFirst }
         ensures stops { self.new.stops ≡ self.old.stops }
@@ -155,6 +156,7 @@ impl<S: Sink + Drop> Sink for Leaving<S> {
         ensures counted { S.failures self.old.inner ≤ S.failures self.new.inner }
         ensures failed { FailsTwo result → S.failures self.old.inner < S.failures self.new.inner }
         ensures changed { P.gives parts.old one.now other.now → IfSome result NotChanged }
+        ensures lost { LosesTwo result → P.loses parts.old parts.new }
         ensures on { P.goes_on parts.old parts.new }
         ensures first { FailsTwo result → self.old.stops ≡ AtFirst }
         ensures stops { self.new.stops ≡ self.old.stops }

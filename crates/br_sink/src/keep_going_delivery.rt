@@ -6,7 +6,7 @@ ghost use Rattle.br_sink.specs.Delivery.{IsStopBelow, items_in, items_put};
 ghost use Rattle.br_sink.specs.declared.fault.SinkFault.TheVariants.{Fault};
 ghost use Rattle.br_sink.specs.Fault.{cause_number};
 ghost use Rattle.br_sink.specs.FileParts.{AreAlike, with_bytes};
-ghost use Rattle.br_sink.specs.TwoParts.{AreTwoAlike, AreTwoSame, FailsTwo, NotChanged, two_put};
+ghost use Rattle.br_sink.specs.TwoParts.{AreTwoAlike, AreTwoSame, FailsTwo, LosesTwo, NotChanged, two_put};
 ghost use Rattle.br_sink.specs.declared.file_parts.PartsFault.TheVariants as why;
 ghost use Rattle.br_sink.specs.KeepGoing.{Leaves, NotesStop, StaysNoted, Takes, passed};
 
@@ -90,6 +90,7 @@ fn leave_parts_at(
     ensures none { OnErr result (Takes noted.old noted.new []) }
     ensures fault { result ≡ Err why.Fault → (fault ≡ why.Fault) × (stops ≡ AtFirst) }
     ensures changed { result ≡ Err why.Changed → fault ≡ why.Changed }
+    ensures lost { result ≡ Err why.NoDriveLeft → fault ≡ why.NoDriveLeft }
     ensures kept { stops ≡ AtFirst → noted.new.left.items ≡ noted.old.left.items }
 {
     match fault {
@@ -122,6 +123,7 @@ pub(crate) fn put_one_by_parts<S: Sink, P: Parts>(
     ensures failed { result ≡ Err why.Fault → S.failures sink.old < S.failures sink.new }
     ensures first { result ≡ Err why.Fault → stops ≡ AtFirst }
     ensures changed { result ≡ Err why.Changed → P.gives parts.old item.now → ⊥ }
+    ensures lost { result ≡ Err why.NoDriveLeft → P.loses parts.old parts.new }
     ensures kept { stops ≡ AtFirst → noted.new.left.items ≡ noted.old.left.items }
     ensures on { P.goes_on parts.old parts.new }
 {
@@ -157,6 +159,7 @@ pub(crate) fn put_two_noted<S: Sink, P: TwoParts>(
     ensures counted { S.failures sink.old ≤ S.failures sink.new }
     ensures failed { FailsTwo result → S.failures sink.old < S.failures sink.new }
     ensures changed { P.gives parts.old one.now other.now → IfSome result NotChanged }
+    ensures lost { LosesTwo result → P.loses parts.old parts.new }
     ensures kept { noted.new.left.items ≡ noted.old.left.items }
     ensures on { P.goes_on parts.old parts.new }
 {

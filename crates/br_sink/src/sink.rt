@@ -4,7 +4,7 @@ ghost use Rattle.br_model.specs.File as model;
 ghost use Rattle.br_sink.specs.Delivery.{IsStopBelow, items_in, items_put};
 ghost use Rattle.br_sink.specs.FileParts.{AreAlike, with_bytes};
 ghost use Rattle.br_sink.specs.Sink.{HasMore};
-ghost use Rattle.br_sink.specs.TwoParts.{AreTwoAlike, AreTwoSame, FailsTwo, NotChanged, two_put};
+ghost use Rattle.br_sink.specs.TwoParts.{AreTwoAlike, AreTwoSame, FailsTwo, LosesTwo, NotChanged, two_put};
 ghost use Rattle.br_sink.specs.declared.fault.SinkFault.TheVariants.{Fault};
 ghost use Rattle.br_sink.specs.declared.file_parts.PartsFault.TheVariants as why;
 
@@ -86,6 +86,7 @@ pub trait Sink {
         ensures counted { failures self.old ≤ failures self.new }
         ensures failed { result ≡ Err why.Fault → failures self.old < failures self.new }
         ensures changed { result ≡ Err why.Changed → P.gives parts.old item.now → ⊥ }
+        ensures lost { result ≡ Err why.NoDriveLeft → P.loses parts.old parts.new }
         ensures on { P.goes_on parts.old parts.new }
     {
         let whole = whole_of(alloc, item, parts)?;
@@ -114,6 +115,7 @@ pub trait Sink {
         ensures counted { failures self.old ≤ failures self.new }
         ensures failed { FailsTwo result → failures self.old < failures self.new }
         ensures changed { P.gives parts.old one.now other.now → IfSome result NotChanged }
+        ensures lost { LosesTwo result → P.loses parts.old parts.new }
         ensures on { P.goes_on parts.old parts.new }
     {
         None

@@ -1,7 +1,7 @@
 //! Two files whose bytes are read again, side by side, while both are put.
 ghost use Rattle.std.specs.Prelude.{◌≡◌};
 ghost use Rattle.br_model.specs.File as model;
-ghost use Rattle.br_sink.specs.TwoParts.{AreTwoAlike, AreTwoSame, NotChanged, WritesTwo, held_by, why_of};
+ghost use Rattle.br_sink.specs.TwoParts.{AreTwoAlike, AreTwoSame, IsLost, NotChanged, WritesTwo, held_by, why_of};
 
 use crate::file_parts::PartsFault;
 use br_join::{FileBytes, Item};
@@ -38,6 +38,9 @@ pub trait TwoParts {
     /// Its state before it read, and a state that it may have after that.
     ghost goes_on: { Self → Self → Type 0 };
 
+    /// Its state before it read, and one after each of its drives failed.
+    ghost loses: { Self → Self → Type 0 };
+
     /// Writes the bytes of two files, each part as it is read, and returns them; they are not in
     /// memory. They have the lengths and the digests of the items' bytes.
     ///
@@ -60,6 +63,7 @@ pub trait TwoParts {
         ensures alike { AreTwoAlike one.now other.now result }
         ensures same { gives self.old one.now other.now → AreTwoSame one.now other.now result }
         ensures changed { gives self.old one.now other.now → NotChanged result }
+        ensures lost { IsLost result → loses self.old self.new }
         ensures on { goes_on self.old self.new };
 
     /// The state may stay the same: then nothing was read.

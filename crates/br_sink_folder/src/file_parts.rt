@@ -32,6 +32,7 @@ fn write_parts<M: FileMaker, P: Parts>(
     ensures alike { IfOk result (λ bytes. AreAlike bytes item.now.bytes) }
     ensures same { IfOk result (λ bytes. P.gives parts.old item.now → bytes ≡ item.now.bytes) }
     ensures changed { result ≡ Err why.Changed → P.gives parts.old item.now → ⊥ }
+    ensures lost { result ≡ Err why.NoDriveLeft → P.loses parts.old parts.new }
     ensures others { KeepsOthers path.now (M.nodes maker.old) (M.nodes maker.new) }
     ensures on { P.goes_on parts.old parts.new }
 {
@@ -57,6 +58,7 @@ fn write_file<M: Remover, P: Parts>(
     ensures alike { IfOk result (λ bytes. AreAlike bytes item.now.bytes) }
     ensures same { IfOk result (λ bytes. P.gives parts.old item.now → bytes ≡ item.now.bytes) }
     ensures changed { result ≡ Err why.Changed → P.gives parts.old item.now → ⊥ }
+    ensures lost { result ≡ Err why.NoDriveLeft → P.loses parts.old parts.new }
     ensures removed { OnErr result (GivesUp M.is_refused root.now item.now.path (M.nodes maker.old) (M.nodes maker.new)) }
     ensures outside { KeepsOutside root.now (M.nodes maker.old) (M.nodes maker.new) }
     ensures on { P.goes_on parts.old parts.new }
@@ -86,6 +88,7 @@ fn write_other<M: Remover>(
     ensures file { OnOk result (PutsItem root.now item.now (M.nodes maker.old) (M.nodes maker.new)) }
     ensures bytes { IfOk result (λ bytes. bytes ≡ item.now.bytes) }
     ensures changed { result ≡ Err why.Changed → ⊥ }
+    ensures lost { result ≡ Err why.NoDriveLeft → ⊥ }
     ensures folders { has_bytes item.now.kind ≡ false → AddsFolders root.now (M.nodes maker.old) (M.nodes maker.new) }
     ensures nothing { is_on_disk item.now.kind ≡ false → M.nodes maker.new ≡ M.nodes maker.old }
     ensures removed { OnErr result (GivesUp M.is_refused root.now item.now.path (M.nodes maker.old) (M.nodes maker.new)) }
@@ -110,6 +113,7 @@ pub(crate) fn put_item<M: Remover, P: Parts>(
     ensures alike { IfOk result (λ bytes. AreAlike bytes item.now.bytes) }
     ensures same { IfOk result (λ bytes. P.gives parts.old item.now → bytes ≡ item.now.bytes) }
     ensures changed { result ≡ Err why.Changed → P.gives parts.old item.now → ⊥ }
+    ensures lost { result ≡ Err why.NoDriveLeft → P.loses parts.old parts.new }
     ensures folders { has_bytes item.now.kind ≡ false → AddsFolders root.now (M.nodes maker.old) (M.nodes maker.new) }
     ensures nothing { is_on_disk item.now.kind ≡ false → M.nodes maker.new ≡ M.nodes maker.old }
     ensures removed { OnErr result (GivesUp M.is_refused root.now item.now.path (M.nodes maker.old) (M.nodes maker.new)) }

@@ -6,7 +6,7 @@ ghost use Rattle.br_fs.specs.declared.kind.Kind.TheVariants.{Folder};
 ghost use Rattle.br_sink.specs.Delivery.{IsStopBelow, items_in, items_put};
 ghost use Rattle.br_sink.specs.FileParts.{AreAlike, with_bytes};
 ghost use Rattle.br_sink.specs.Sink.{HasMore};
-ghost use Rattle.br_sink.specs.TwoParts.{AreTwoAlike, AreTwoSame, FailsTwo, NotChanged, two_put};
+ghost use Rattle.br_sink.specs.TwoParts.{AreTwoAlike, AreTwoSame, FailsTwo, LosesTwo, NotChanged, two_put};
 ghost use Rattle.br_sink.specs.declared.fault.SinkFault.TheVariants.{Fault};
 ghost use Rattle.br_sink.specs.declared.file_parts.PartsFault.TheVariants as why;
 ghost use Rattle.br_sink_folder.specs.Below.{KeepsOutside};
@@ -158,6 +158,7 @@ impl<M: ManyWriter + Comparer + Drop> Sink for Resuming<M> {
         ensures alike { IfOk result (λ bytes. AreAlike bytes item.now.bytes) }
         ensures same { IfOk result (λ bytes. P.gives parts.old item.now → bytes ≡ item.now.bytes) }
         ensures changed { result ≡ Err why.Changed → P.gives parts.old item.now → ⊥ }
+        ensures lost { result ≡ Err why.NoDriveLeft → P.loses parts.old parts.new }
         ensures refused { OnErr result (told ≡ told) }
         ensures counted { self.old.folder.failures ≤ self.new.folder.failures }
         ensures failed { result ≡ Err why.Fault → self.old.folder.failures < self.new.folder.failures }
@@ -187,6 +188,7 @@ impl<M: ManyWriter + Comparer + Drop> Sink for Resuming<M> {
         ensures alike { IfSome result (AreTwoAlike one.now other.now) }
         ensures same { P.gives parts.old one.now other.now → IfSome result (AreTwoSame one.now other.now) }
         ensures changed { P.gives parts.old one.now other.now → IfSome result NotChanged }
+        ensures lost { LosesTwo result → P.loses parts.old parts.new }
         ensures counted { self.old.folder.failures ≤ self.new.folder.failures }
         ensures failed { FailsTwo result → self.old.folder.failures < self.new.folder.failures }
         ensures on { P.goes_on parts.old parts.new }

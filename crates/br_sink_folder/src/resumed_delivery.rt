@@ -51,6 +51,7 @@ pub(crate) fn put_missing_parts<M: ManyWriter + Comparer + Drop, P: Parts>(
     ensures alike { IfOk result (λ bytes. AreAlike bytes item.now.bytes) }
     ensures same { IfOk result (λ bytes. P.gives parts.old item.now → bytes ≡ item.now.bytes) }
     ensures changed { result ≡ Err why.Changed → P.gives parts.old item.now → ⊥ }
+    ensures lost { result ≡ Err why.NoDriveLeft → P.loses parts.old parts.new }
     ensures on { P.goes_on parts.old parts.new }
     ensures counted { sink.old.failures ≤ sink.new.failures }
     ensures failed { result ≡ Err why.Fault → sink.old.failures < sink.new.failures }

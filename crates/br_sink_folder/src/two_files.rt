@@ -4,7 +4,7 @@ ghost use Rattle.std.specs.Str.{IsUtf8};
 ghost use Rattle.br_model.specs.File.{has_bytes};
 ghost use Rattle.br_model.specs.Name.{is_directory};
 ghost use Rattle.br_fs.specs.Making.{IsBelow, IsFinished, Nodes};
-ghost use Rattle.br_sink.specs.TwoParts.{AreTwoAlike, AreTwoSame, NotChanged};
+ghost use Rattle.br_sink.specs.TwoParts.{AreTwoAlike, AreTwoSame, IsLost, LosesTwo, NotChanged};
 ghost use Rattle.br_sink.specs.declared.two_parts.TwoPut.TheVariants as two;
 ghost use Rattle.br_sink.specs.declared.file_parts.PartsFault.TheVariants as why;
 ghost use Rattle.br_sink_folder.specs.Below.{AddsFolders, KeepsOutside};
@@ -118,6 +118,7 @@ fn close_first<M: Remover>(maker: &mut M, paths: &Paths<'_>, file: M::New) -> Re
     requires below { HavePathsBelow paths.now }
     ensures finished { OnOk result (IsFinished paths.now.one.now (M.New.contents file) (M.nodes maker.old) (M.nodes maker.new)) }
     ensures changed { result ≡ Err why.Changed → ⊥ }
+    ensures lost { result ≡ Err why.NoDriveLeft → ⊥ }
     ensures removed { OnErr result (AreBothRemoved M.is_refused paths.now.one.now paths.now.other.now (M.nodes maker.new)) }
     ensures outside { KeepsOutside paths.now.root.now (M.nodes maker.old) (M.nodes maker.new) }
 {
@@ -140,6 +141,7 @@ fn close_second<M: Remover>(
     requires below { HavePathsBelow paths.now }
     ensures finished { OnOk result (IsFinished paths.now.other.now (M.New.contents file) (M.nodes maker.old) (M.nodes maker.new)) }
     ensures changed { result ≡ Err why.Changed → ⊥ }
+    ensures lost { result ≡ Err why.NoDriveLeft → ⊥ }
     ensures removed { OnErr result (IsRemoved M.is_refused (M.nodes maker.new) paths.now.other.now) }
     ensures rest { ChangesOne paths.now.root.now paths.now.other.now (M.nodes maker.old) (M.nodes maker.new) }
     ensures outside { KeepsOutside paths.now.root.now (M.nodes maker.old) (M.nodes maker.new) }
@@ -167,6 +169,7 @@ fn close_both<M: Remover>(
     requires below { HavePathsBelow paths.now }
     ensures put { PutsAtMost (two.Both one other) result }
     ensures changed { NotChanged result }
+    ensures lost { IsLost result → ⊥ }
     ensures closed { ClosesPaths paths.now (M.New.contents first) (M.New.contents second) (M.nodes maker.old) (M.nodes maker.new) result }
     ensures removed { IsRestRemoved M.is_refused paths.now.one.now paths.now.other.now (M.nodes maker.new) result }
     ensures outside { KeepsOutside paths.now.root.now (M.nodes maker.old) (M.nodes maker.new) }
@@ -193,6 +196,7 @@ fn close_one<M: Remover>(
     requires below { HavePathsBelow paths.now }
     ensures put { PutsAtMost (two.One one why) result }
     ensures changed { NotChanged (two.One one why) → NotChanged result }
+    ensures lost { IsLost result → IsLost (two.One one why) }
     ensures closed { (second : Option (List ℕ)) → ClosesPaths paths.now (M.New.contents file) second (M.nodes maker.old)
         (M.nodes maker.new) result }
     ensures removed { IsRestRemoved M.is_refused paths.now.one.now paths.now.other.now (M.nodes maker.new) result }
@@ -216,6 +220,7 @@ fn close_pair<M: Remover>(
     requires below { HavePathsBelow paths.now }
     ensures put { PutsAtMost written result }
     ensures changed { NotChanged written → NotChanged result }
+    ensures lost { IsLost result → IsLost written }
     ensures closed { ClosesPaths paths.now (M.New.contents first) (M.New.contents second) (M.nodes maker.old) (M.nodes maker.new) result }
     ensures removed { IsRestRemoved M.is_refused paths.now.one.now paths.now.other.now (M.nodes maker.new) result }
     ensures outside { KeepsOutside paths.now.root.now (M.nodes maker.old) (M.nodes maker.new) }
@@ -245,6 +250,7 @@ fn write_pair<M: Remover, P: TwoParts>(
     ensures alike { AreTwoAlike pair.now.one.now pair.now.other.now result }
     ensures same { P.gives parts.old pair.now.one.now pair.now.other.now → AreTwoSame pair.now.one.now pair.now.other.now result }
     ensures changed { P.gives parts.old pair.now.one.now pair.now.other.now → NotChanged result }
+    ensures lost { IsLost result → P.loses parts.old parts.new }
     ensures left { LeavesNew M.New.contents pair.now first second (M.nodes maker.old) (M.nodes maker.new) result }
     ensures removed { IsPairRemoved M.is_refused pair.now (M.nodes maker.new) result }
     ensures outside { KeepsOutside pair.now.root.now (M.nodes maker.old) (M.nodes maker.new) }
@@ -279,6 +285,7 @@ pub(crate) fn put_pair<M: Remover, P: TwoParts>(
     ensures same { P.gives parts.old pair.now.one.now pair.now.other.now
         → IfSome result (AreTwoSame pair.now.one.now pair.now.other.now) }
     ensures changed { P.gives parts.old pair.now.one.now pair.now.other.now → IfSome result NotChanged }
+    ensures lost { LosesTwo result → P.loses parts.old parts.new }
     ensures left { IfSome result (LeavesTwo pair.now.root.now pair.now.one.now pair.now.other.now (M.nodes maker.old) (M.nodes maker.new)) }
     ensures removed { IfSome result (IsPairRemoved M.is_refused pair.now (M.nodes maker.new)) }
     ensures given_up { result ≡ None → GivesUp M.is_refused pair.now.root.now pair.now.one.now.path (M.nodes maker.old)

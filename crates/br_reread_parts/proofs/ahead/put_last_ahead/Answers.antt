@@ -1,9 +1,19 @@
-use Rattle.std.proofs.Common.{◌≡◌, ◌+◌, ◌++◌, List, length, ap, subst, ◌∙◌}
+use Rattle.std.proofs.Common.{◌≡◌, ◌<◌, ◌+◌, ◌++◌, List, length, ap, subst, ◌∙◌}
+use Rattle.std.proofs.lemmas.Result.{err_from_is_err_and}
 use Rattle.std.specs.Io.KnownBytes.{Appends}
 use Rattle.br_data.specs.KeptData.{Kept}
 use Rattle.br_reread_parts.specs.Windows.{data_bytes}
+use Rattle.br_reread_parts.proofs.PutLaws.{err_again}
 use Rattle.br_reread_parts.proofs.StepLaws.{last_put}
 use Rattle.br_reread_parts.proofs.ahead.put_last_ahead.Goals as goal
+
+pub returns-in_err-write_window-clause-changed : goal.returns-in_err-write_window-clause-changed
+returns-in_err-write_window-clause-changed g c =
+    let p = err_from_is_err_and c.from_residual-in_err-write_window.result c.from_residual-in_err-write_window.ensures.1 in
+    rw (p.1, p.2)
+    (λ is.
+    subst (λ (found : List Kept). c.args.ahead.now.left < length (data_bytes found)) c.deref-2.ensures.value
+    (c.in_err-write_window.ensures.changed (err_again _ _ is)))
 
 pub returns-clause-put : goal.returns-clause-put
 returns-clause-put g c =

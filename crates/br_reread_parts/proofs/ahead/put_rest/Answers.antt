@@ -1,7 +1,9 @@
-use Rattle.std.proofs.Common.{length, sym, ◌∙◌, eqb-true}
+use Rattle.std.proofs.Common.{[], length, sym, ◌∙◌, eqb-true}
+use Rattle.std.proofs.lemmas.Result.{err_from_is_err_and}
 use Rattle.br_data.proofs.GoOnLaws.{go_itself, go_more}
-use Rattle.br_reread_parts.proofs.PutLaws.{ok_weaker}
-use Rattle.br_reread_parts.proofs.StepLaws.{few_on, more_put, none_put, step_put}
+use Rattle.br_reread_parts.specs.Steps.{step_of}
+use Rattle.br_reread_parts.proofs.PutLaws.{err_again, ok_weaker}
+use Rattle.br_reread_parts.proofs.StepLaws.{few_on, fits_on, more_put, next_fits, none_put, step_put}
 use Rattle.br_reread_parts.proofs.WindowLaws.{none_left}
 use Rattle.br_reread_parts.proofs.ahead.put_rest.Goals as goal
 
@@ -13,6 +15,14 @@ returns-in_err-put_ahead_beside-clause-on g c = go_more _ _ _ c.loop-many.invari
 
 pub returns-in_err-put_ahead_beside-clause-front : goal.returns-in_err-put_ahead_beside-clause-front
 returns-in_err-put_ahead_beside-clause-front g c = few_on _ _ _ _ _ _ c.loop-many.invariant.puts c.put_ahead_beside.ensures.front
+
+pub returns-in_err-put_ahead_beside-clause-changed : goal.returns-in_err-put_ahead_beside-clause-changed
+returns-in_err-put_ahead_beside-clause-changed g c =
+    let p = err_from_is_err_and c.from_residual.result c.from_residual.ensures.1 in
+    rw (p.1, p.2)
+    (λ is fits.
+    c.in_err-put_ahead_beside.ensures.changed (err_again _ _ is)
+    (fits_on c.standing_stays.ensures _ _ _ _ _ _ c.loop-many.invariant.on c.loop-many.invariant.puts fits))
 
 pub loop-many-preserved : goal.loop-many-preserved
 loop-many-preserved g c =
@@ -28,6 +38,14 @@ returns-clause-on g c = c.loop-many.invariant.on
 
 pub returns-clause-front : goal.returns-clause-front
 returns-clause-front g c = few_on _ _ _ _ _ _ c.loop-many.invariant.puts c.put_last_ahead.ensures.front
+
+pub returns-clause-changed : goal.returns-clause-changed
+returns-clause-changed g c = λ is fits.
+    next_fits c.loop-many.many (step_of [] c.loop-many.ahead)
+    (fits_on c.standing_stays.ensures _ _ _ _ _ _ c.loop-many.invariant.on c.loop-many.invariant.puts fits) (c.put_last_ahead.ensures.changed is)
+
+pub returns-clause-lost : goal.returns-clause-lost
+returns-clause-lost g c = λ is. absurd (c.put_last_ahead.ensures.lost is)
 
 pub returns-clause-put : goal.returns-clause-put
 returns-clause-put g c =

@@ -1,10 +1,12 @@
-use Rattle.std.proofs.Common.{take, length, ap, subst, arith, length-append}
+use Rattle.std.proofs.Common.{◌+◌, take, length, ap, subst, arith, length-append}
 use Rattle.std.specs.Io.KnownBytes.{Appends}
 use Rattle.std.proofs.KnownBytes.{Appends-nil, Appends-trans}
 use Rattle.std.proofs.lemmas.List.{take_all}
+use Rattle.std.proofs.lemmas.Result.{err_from_is_err_and}
 use Rattle.br_reread_parts.specs.Windows.{data_bytes}
 use Rattle.br_reread_parts.proofs.PartLaws.{few_more, few_these}
-use Rattle.br_reread_parts.proofs.WindowLaws.{one_more}
+use Rattle.br_reread_parts.proofs.PutLaws.{err_again}
+use Rattle.br_reread_parts.proofs.WindowLaws.{first_fewer, one_more}
 use Rattle.br_reread_parts.proofs.file_windows.write_window.Goals as goal
 
 pub loop-found-init : goal.loop-found-init
@@ -14,6 +16,21 @@ pub returns-in_err-write_data-clause-front : goal.returns-in_err-write_data-clau
 returns-in_err-write_data-clause-front g c =
     let l = c.loop-found.invariant in
     few_more _ _ _ _ _ c.loop-found.left l.left l.written c.in_err-write_data.ensures.front
+
+pub returns-in_err-write_data-clause-changed : goal.returns-in_err-write_data-clause-changed
+returns-in_err-write_data-clause-changed g c =
+    let window = c.args.window.now in
+    let i = c.loop-found.found-index in
+    let x = c.found-item.result in
+    let p = err_from_is_err_and c.from_residual.result c.from_residual.ensures.1 in
+    rw (p.1, p.2)
+    (λ is.
+    let more = c.in_err-write_data.ensures.changed (err_again _ _ is) in
+    let left = c.loop-found.invariant.left in
+    let all = length-append (data_bytes (take i window)) x.bytes in
+    let same = ap length (one_more window i x c.loop-found-test.true c.found-item.is) in
+    let fewer = first_fewer (i + 1) window in
+    omega (arith, more, left, all, same, fewer))
 
 pub loop-found-preserved : goal.loop-found-preserved
 loop-found-preserved g c =
