@@ -179,6 +179,7 @@ module _ {D : Type 0} (shows : D → Option (List Volume)) (failures : D → ℕ
         subst (λ (rs : List Run). AreFirst rs (map restored t.work.made.items)) (sym has.runs)
         (has.first is.1 (none_first s.work.runs.now (map restored s.work.made.items) (ap (map restored) is.0)));
     all = subst (λ (rs : List Run). OnOk t.work.end (length rs ≤ length t.work.made.items)) (sym has.runs) has.all;
+    unchanged = λ changed. has.unchanged changed is.1;
   }
 
   given_all : (ss : List (FileShare D)) (xs : List D) → reverse (map drives_of ss) ≡ map one xs → AllByRecursion (λ (w : Work). w.made.items ≡ []) (map work_of ss)

@@ -8,13 +8,13 @@ use Rattle.br_data.specs.StandingHits.{StandingStays}
 use Rattle.br_data.specs.ManyDrives.{GoOn, RereadingMany}
 use Rattle.br_sink.specs.FileParts.{with_bytes}
 use Rattle.br_sink.specs.Sink.{HasMore}
-use Rattle.br_sink.specs.TwoParts.{AreTwoAlike, AreTwoSame, FailsTwo, two_put}
+use Rattle.br_sink.specs.TwoParts.{AreTwoAlike, AreTwoSame, FailsTwo, LosesTwo, NotChanged, two_put}
 use Rattle.br_sink.specs.declared.two_parts.TwoPut.{TwoPut}
 use Rattle.br_sink.specs.declared.two_parts.TwoPut.TheVariants as put
 use Rattle.br_reread_parts.specs.FileParts.{PutsAlike}
 use Rattle.br_reread_parts.proofs.GivenLaws.{hits_kept}
 use Rattle.br_reread_files.specs.FileParts.{GivesItem}
-use Rattle.br_reread_files.specs.TwoFiles.{FailsAny, GivesBoth, PutsAny, PutsBoth, PutsTwo, done_as}
+use Rattle.br_reread_files.specs.TwoFiles.{ChangesAny, FailsAny, GivesBoth, LosesAny, PutsAny, PutsBoth, PutsTwo, done_as}
 use Rattle.br_reread_files.specs.declared.two_files.TwoDone.{TwoDone}
 use Rattle.br_reread_files.specs.declared.two_files.TwoDone.TheVariants.{Both, One, Neither}
 
@@ -55,6 +55,20 @@ fails_done None failed = absurd failed
 fails_done (Some (put.Both x y)) failed = absurd failed
 fails_done (Some (put.One x why)) failed = ap Some failed
 fails_done (Some (put.Neither why)) failed = ap Some failed
+
+-- the data of a file are no longer those that were found
+pub changes_done : (put : Option TwoPut) → ChangesAny (option_map done_as put) → IfSome put NotChanged → ⊥
+changes_done None changed kept = changed
+changes_done (Some (put.Both x y)) changed kept = changed
+changes_done (Some (put.One x why)) changed kept = kept (ap Some changed)
+changes_done (Some (put.Neither why)) changed kept = kept (ap Some changed)
+
+-- no drive is left
+pub loses_done : (put : Option TwoPut) → LosesAny (option_map done_as put) → LosesTwo put
+loses_done None lost = absurd lost
+loses_done (Some (put.Both x y)) lost = absurd lost
+loses_done (Some (put.One x why)) lost = ap Some lost
+loses_done (Some (put.Neither why)) lost = ap Some lost
 
 -- the same, if more is given
 pub puts_any_if : (given less : Type 0) (done : Option TwoDone) (one other : Item) (had has : Option (List Item)) → (given → less) → PutsAny done less (one, other) had has

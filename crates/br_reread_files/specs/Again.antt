@@ -30,6 +30,10 @@ MakeItem hits key item = outcome_of key (fragments_for key (listed hits)) ≡ Ok
 abbrev pub IsMadeOf : List Hit → Restored → Type 0
 IsMadeOf hits r = IfOk r.outcome (λ item. MakeItem hits r.key item)
 
+-- the hits are given as they were found, and make the files among the outcomes
+abbrev pub CanMakeAll : RereadingMany → List Hit → List (FileKey × Outcome) → Type 0
+CanMakeAll many hits outcomes = GivesHits many hits × AllByRecursion (IsMadeOf hits) (map restored outcomes)
+
 -- the files that are made are those among the outcomes, if the hits are given as they were found
 -- and make them
 abbrev pub AreSameIfGiven : RereadingMany → List Hit → List (FileKey × Outcome) → List (FileKey × Outcome) → Type 0

@@ -1,5 +1,5 @@
 -- Files that several drives make side by side.
-use Rattle.std.specs.Prelude.{◌≡◌, ◌<◌, ◌≤◌, ℕ, List, ◌++◌, length, map, flat_map, reverse, slice_index_or, Option, OnOk}
+use Rattle.std.specs.Prelude.{◌≡◌, ◌<◌, ◌≤◌, ℕ, List, ◌++◌, length, map, flat_map, reverse, slice_index_or, Option, Err, OnOk}
 use Rattle.std.specs.List.{AllByRecursion, AllZip}
 use Rattle.br_model.specs.Bootstrap.{Group}
 use Rattle.br_model.specs.Name.{FileKey}
@@ -7,19 +7,26 @@ use Rattle.br_model.specs.Volume.{Volume}
 use Rattle.br_join.specs.Outcome.{restored}
 use Rattle.br_join.specs.declared.item.Outcome.{Outcome}
 use Rattle.br_data.specs.ManyDrives.{GoesOn, RereadingMany, driven_by}
+use Rattle.br_data.specs.declared.reread_fault.AgainFault.TheVariants.{Changed}
 use Rattle.br_join.specs.Runs.{Run, file_of}
 use Rattle.br_reread_files.specs.Runs.{AreFirst, GivesRuns, StayFirst}
 use Rattle.br_reread_files.specs.declared.sharing.FileShare.{FileShare}
 use Rattle.br_reread_files.specs.declared.file_work.Work.{Work}
 
--- The files that are made are the first ones; they are all if no fault ended the work.
+-- The files that are made are the first ones; they are all if no fault ended the work. No data are
+-- other ones than were found.
 pub record IsBegun (w : Work) : Type 0 where
   pub first : AreFirst w.runs.now (map restored w.made.items)
   pub all : OnOk w.end (length w.runs.now ≤ length w.made.items)
+  pub unchanged : w.end ≡ Err Changed → ⊥
 
 -- the files of the works, one work after another
 abbrev pub runs_in : List Work → List Run
 runs_in works = flat_map (λ (w : Work). w.runs.now) works
+
+-- the works are begun, and the bytes of all hits of their files are given as they were found
+abbrev pub AreGivenBegun : RereadingMany → List Work → Type 0
+AreGivenBegun many works = GivesRuns many (runs_in (reverse works)) × AllByRecursion IsBegun works
 
 -- the works are begun after the run, if the bytes of all hits of their files are given as they were
 -- found
@@ -54,12 +61,14 @@ abbrev pub drives_from_last : {D : Type 0} → List (FileShare D) → List (List
 drives_from_last {D} shares = reverse (map (λ (s : FileShare D). s.drives.items) shares)
 
 -- A share before and after files were made: its drives went on. More of its files may be made, and
--- all are made if no fault ended the work.
+-- all are made if no fault ended the work. The data are other ones than were found only if they are
+-- not given.
 pub record HasMade {D : Type 0} (shows : D → Option (List Volume)) (failures : D → ℕ) (groups : List Group) (before after : FileShare D) : Type 0 where
   pub runs : after.work.runs.now ≡ before.work.runs.now
   pub on : AllZip GoesOn (driven_by shows failures before.drives.items) (driven_by shows failures after.drives.items)
   pub first : StayFirst (many_of shows failures groups before) before.work.runs.now before.work.made.items after.work.made.items
   pub all : OnOk after.work.end (length before.work.runs.now ≤ length after.work.made.items)
+  pub unchanged : after.work.end ≡ Err Changed → GivesRuns (many_of shows failures groups before) before.work.runs.now → ⊥
 
 -- this holds of the two elements at each place
 abbrev pub EachPairAt : {A : Type 0} → (A → A → Type 0) → List A → List A → Type 0

@@ -6,7 +6,7 @@ use Rattle.br_model.specs.Name.{FileKey}
 use Rattle.br_data.specs.ManyDrives.{RereadingMany}
 use Rattle.br_sink.specs.FileParts.{AreAlike, with_bytes}
 use Rattle.br_sink.specs.Sink.{HasMore}
-use Rattle.br_sink.specs.declared.file_parts.PartsFault.TheVariants.{Fault}
+use Rattle.br_sink.specs.declared.file_parts.PartsFault.TheVariants.{Changed, Fault, NoDriveLeft}
 use Rattle.br_sink.specs.declared.two_parts.TwoPut.{TwoPut}
 use Rattle.br_sink.specs.declared.two_parts.TwoPut.TheVariants as put
 use Rattle.br_reread_parts.specs.FileParts.{PutsAlike}
@@ -52,6 +52,28 @@ FailsEither (Neither why) = why ≡ Fault
 abbrev pub FailsAny : Option TwoDone → Type 0
 FailsAny (Some done) = FailsEither done
 FailsAny None = ⊥
+
+-- the data of one of the files are no longer those that were found
+abbrev pub ChangesEither : TwoDone → Type 0
+ChangesEither Both = ⊥
+ChangesEither (One why) = why ≡ Changed
+ChangesEither (Neither why) = why ≡ Changed
+
+-- the same, if the files were tried
+abbrev pub ChangesAny : Option TwoDone → Type 0
+ChangesAny (Some done) = ChangesEither done
+ChangesAny None = ⊥
+
+-- no drive is left that reads one of the files
+abbrev pub LosesEither : TwoDone → Type 0
+LosesEither Both = ⊥
+LosesEither (One why) = why ≡ NoDriveLeft
+LosesEither (Neither why) = why ≡ NoDriveLeft
+
+-- the same, if the files were tried
+abbrev pub LosesAny : Option TwoDone → Type 0
+LosesAny (Some done) = LosesEither done
+LosesAny None = ⊥
 
 -- the files of these two
 abbrev pub plain_files : PlainFile → PlainFile → Item × Item

@@ -1,7 +1,7 @@
 //! Two files that are read and digested side by side. This thread reads a window of one file and
 //! then one of the other, while two other threads digest the windows that were read before.
 ghost use Rattle.std.specs.Prelude.{◌≡◌, ◌≤◌, ◌-◌, ◌++◌, [], length, Err, IfOk, OnOk};
-ghost use Rattle.br_data.specs.declared.reread_fault.AgainFault.TheVariants.{Failed};
+ghost use Rattle.br_data.specs.declared.reread_fault.AgainFault.TheVariants.{Changed, Failed};
 ghost use Rattle.br_join.specs.Outcome.{restored};
 ghost use Rattle.br_data.specs.ManyDrives.{GoOn, HaveFailed};
 ghost use Rattle.br_reread_files.specs.Digesting.{AreRead, IsDigested, IsRead, IsWhole, ReadsOn};
@@ -46,6 +46,7 @@ fn read_both<D: Drive>(
     ensures one { IfOk result (λ ahead. AreRead many.old next.now.one.now ahead.one) }
     ensures other { IfOk result (λ ahead. AreRead many.old next.now.other.now ahead.other) }
     ensures on { GoOn many.old many.new }
+    ensures changed { result ≡ Err Changed → GivesHits many.old next.now.one.now → GivesHits many.old next.now.other.now → ⊥ }
     ensures failed { result ≡ Err Failed → HaveFailed many.old many.new }
 {
     standing_stays();
@@ -71,6 +72,7 @@ fn digest_one_beside<D: Drive>(
     ensures one { IfOk result (λ ahead. AreRead many.old next.now.one.now ahead.one) }
     ensures other { IfOk result (λ ahead. AreRead many.old next.now.other.now ahead.other) }
     ensures on { GoOn many.old many.new }
+    ensures changed { result ≡ Err Changed → GivesHits many.old next.now.one.now → GivesHits many.old next.now.other.now → ⊥ }
     ensures failed { result ≡ Err Failed → HaveFailed many.old many.new }
 {
     let reading = &mut begun.reading;
@@ -104,6 +106,7 @@ fn digest_both_beside<D: Drive>(
     ensures one { IfOk result (λ ahead. AreRead many.old next.now.one.now ahead.one) }
     ensures other { IfOk result (λ ahead. AreRead many.old next.now.other.now ahead.other) }
     ensures on { GoOn many.old many.new }
+    ensures changed { result ≡ Err Changed → GivesHits many.old next.now.one.now → GivesHits many.old next.now.other.now → ⊥ }
     ensures failed { result ≡ Err Failed → HaveFailed many.old many.new }
 {
     let reading = &mut one.reading;
@@ -136,6 +139,7 @@ fn read_both_on<'h, D: Drive>(
     ensures other { IfOk result (λ left. ReadsOn many.old other.old.hits.items rest.now.other.now other.new left.other.now) }
     ensures fewer { IfOk result (λ left. length left.one.now ≤ length rest.now.one.now - 1) }
     ensures on { GoOn many.old many.new }
+    ensures changed { result ≡ Err Changed → GivesHits many.old rest.now.one.now → GivesHits many.old rest.now.other.now → ⊥ }
     ensures failed { result ≡ Err Failed → HaveFailed many.old many.new }
 {
     let first = cut_window(rest.one, DIGESTED);
@@ -172,6 +176,7 @@ fn digest_while_both<'h, D: Drive>(
     ensures one { IfOk result (λ left. ReadsOn many.old one.old.hits.items rest.entry.one.now one.new left.one.now) }
     ensures other { IfOk result (λ left. ReadsOn many.old other.old.hits.items rest.entry.other.now other.new left.other.now) }
     ensures on { GoOn many.old many.new }
+    ensures changed { result ≡ Err Changed → GivesHits many.old rest.entry.one.now → GivesHits many.old rest.entry.other.now → ⊥ }
     ensures failed { result ≡ Err Failed → HaveFailed many.old many.new }
 {
     standing_stays();
@@ -201,6 +206,7 @@ fn digest_both<D: Drive>(
     ensures one { OnOk result (IsDigested many.old one.old.hits.items rest.entry.one.now one.new) }
     ensures other { OnOk result (IsDigested many.old other.old.hits.items rest.entry.other.now other.new) }
     ensures on { GoOn many.old many.new }
+    ensures changed { result ≡ Err Changed → GivesHits many.old rest.entry.one.now → GivesHits many.old rest.entry.other.now → ⊥ }
     ensures failed { result ≡ Err Failed → HaveFailed many.old many.new }
 {
     standing_stays();
@@ -232,6 +238,7 @@ fn read_two<D: Drive>(
     ensures one { IfOk result (λ read. IsDigested many.old [] hits.now.one.now read.one) }
     ensures other { IfOk result (λ read. IsDigested many.old [] hits.now.other.now read.other) }
     ensures on { GoOn many.old many.new }
+    ensures changed { result ≡ Err Changed → GivesHits many.old hits.now.one.now → GivesHits many.old hits.now.other.now → ⊥ }
     ensures failed { result ≡ Err Failed → HaveFailed many.old many.new }
 {
     standing_stays();
@@ -284,6 +291,7 @@ pub(crate) fn files_by_two<D: Drive>(
     ensures one { IfOk result (λ both. GivesHits many.old one.now.hits → restored (one.now.key, both.one) ≡ file_of one.now) }
     ensures other { IfOk result (λ both. GivesHits many.old other.now.hits → restored (other.now.key, both.other) ≡ file_of other.now) }
     ensures on { GoOn many.old many.new }
+    ensures changed { result ≡ Err Changed → GivesHits many.old one.now.hits → GivesHits many.old other.now.hits → ⊥ }
     ensures failed { result ≡ Err Failed → HaveFailed many.old many.new }
 {
     let hits = Both {

@@ -2,7 +2,7 @@
 //! thread digests the data of one window, those of the next one are read.
 ghost use Rattle.std.specs.Prelude.{◌≡◌, ◌≤◌, ◌-◌, ◌++◌, [], length, map, nat_abs, Err, IfOk, OnOk};
 ghost use Rattle.std.specs.List.{AllByRecursion};
-ghost use Rattle.br_data.specs.declared.reread_fault.AgainFault.TheVariants.{Failed};
+ghost use Rattle.br_data.specs.declared.reread_fault.AgainFault.TheVariants.{Changed, Failed};
 ghost use Rattle.br_model.specs.Meaning as meaning;
 ghost use Rattle.br_model.specs.Restored as model;
 ghost use Rattle.br_reread_parts.specs.Given.{GivesHit, GivesHits};
@@ -56,6 +56,7 @@ fn read_next<D: Drive>(
     ensures same { IfOk result (λ read. GivesHit many.old hit.now → read ≡ hit.now) }
     ensures kept { IfOk result (λ read. AppendsPlain window.old.items window.new.items read.fragment) }
     ensures on { GoOn many.old many.new }
+    ensures changed { result ≡ Err Changed → GivesHit many.old hit.now → ⊥ }
     ensures failed { result ≡ Err Failed → HaveFailed many.old many.new }
 {
     let read = many.read(alloc, hit.spot, &hit.data)?;
@@ -89,6 +90,7 @@ pub(crate) fn read_ahead<D: Drive>(
 ) -> Result<Ahead, AgainFault>
     ensures read { IfOk result (AreRead many.old hits.now) }
     ensures on { GoOn many.old many.new }
+    ensures changed { result ≡ Err Changed → GivesHits many.old hits.now → ⊥ }
     ensures failed { result ≡ Err Failed → HaveFailed many.old many.new }
 {
     standing_stays();
@@ -146,6 +148,7 @@ pub(crate) fn open<'h, D: Drive>(
 ) -> Result<Opened<'h>, AgainFault>
     ensures read { IfOk result (λ file. ReadsOn many.old [] hits.now file.begun file.rest.now) }
     ensures on { GoOn many.old many.new }
+    ensures changed { result ≡ Err Changed → GivesHits many.old hits.now → ⊥ }
     ensures failed { result ≡ Err Failed → HaveFailed many.old many.new }
 {
     let first = cut_window(hits, DIGESTED);
@@ -177,6 +180,7 @@ fn digest_beside<D: Drive>(
     ensures hits { begun.new.hits.items ≡ begun.old.hits.items }
     ensures read { IfOk result (AreRead many.old next.now) }
     ensures on { GoOn many.old many.new }
+    ensures changed { result ≡ Err Changed → GivesHits many.old next.now → ⊥ }
     ensures failed { result ≡ Err Failed → HaveFailed many.old many.new }
 {
     let reading = &mut begun.reading;
@@ -206,6 +210,7 @@ fn read_on<'h, D: Drive>(
     ensures read { IfOk result (λ left. ReadsOn many.old begun.old.hits.items rest.now begun.new left.now) }
     ensures fewer { IfOk result (λ left. length left.now ≤ length rest.now - 1) }
     ensures on { GoOn many.old many.new }
+    ensures changed { result ≡ Err Changed → GivesHits many.old rest.now → ⊥ }
     ensures failed { result ≡ Err Failed → HaveFailed many.old many.new }
 {
     let next = cut_window(rest, DIGESTED);
@@ -232,6 +237,7 @@ pub(crate) fn digest_rest<D: Drive>(
     requires { IsRead begun.old }
     ensures digested { OnOk result (IsDigested many.old begun.old.hits.items rest.now begun.new) }
     ensures on { GoOn many.old many.new }
+    ensures changed { result ≡ Err Changed → GivesHits many.old rest.now → ⊥ }
     ensures failed { result ≡ Err Failed → HaveFailed many.old many.new }
 {
     standing_stays();
@@ -273,6 +279,7 @@ fn plain_outcome_by<D: Drive>(
     requires { AllByRecursion (λ (h : meaning.Hit). h.key ≡ key) hits.now }
     ensures made { IfOk result (λ outcome. GivesHits many.old hits.now → shown outcome ≡ model.outcome_of key (fragments hits.now)) }
     ensures on { GoOn many.old many.new }
+    ensures changed { result ≡ Err Changed → GivesHits many.old hits.now → ⊥ }
     ensures failed { result ≡ Err Failed → HaveFailed many.old many.new }
 {
     standing_stays();
@@ -313,6 +320,7 @@ pub(crate) fn digested_by<D: Drive>(
     requires { AllByRecursion (λ (h : meaning.Hit). h.key ≡ key) hits.now }
     ensures made { IfOk result (λ outcome. GivesHits many.old hits.now → shown outcome ≡ model.outcome_of key (fragments hits.now)) }
     ensures on { GoOn many.old many.new }
+    ensures changed { result ≡ Err Changed → GivesHits many.old hits.now → ⊥ }
     ensures failed { result ≡ Err Failed → HaveFailed many.old many.new }
 {
     if !has_sparse_data(hits) {

@@ -1,8 +1,8 @@
 //! Files that are made one after another, or two long ones side by side.
 ghost use Rattle.std.specs.Prelude.{◌≡◌, ◌<◌, ◌≤◌, ◌+◌, length, Err, OnOk};
-ghost use Rattle.br_data.specs.declared.reread_fault.AgainFault.TheVariants.{Failed};
+ghost use Rattle.br_data.specs.declared.reread_fault.AgainFault.TheVariants.{Changed, Failed};
 ghost use Rattle.br_data.specs.ManyDrives.{GoOn, HaveFailed};
-ghost use Rattle.br_reread_files.specs.Runs.{StayFirst};
+ghost use Rattle.br_reread_files.specs.Runs.{GivesRuns, StayFirst};
 
 use crate::both_digested::files_by_two;
 use crate::made_again::{file_by, push_file};
@@ -36,6 +36,7 @@ fn make_one<D: Drive>(
     ensures first { StayFirst many.old runs.now made.old.items made.new.items }
     ensures more { OnOk result (length made.old.items < length made.new.items) }
     ensures on { GoOn many.old many.new }
+    ensures changed { result ≡ Err Changed → GivesRuns many.old runs.now → ⊥ }
     ensures failed { result ≡ Err Failed → HaveFailed many.old many.new }
 {
     let next = &runs[made.len()];
@@ -60,6 +61,7 @@ fn make_two<D: Drive>(
     ensures first { StayFirst many.old runs.now made.old.items made.new.items }
     ensures more { OnOk result (length made.old.items < length made.new.items) }
     ensures on { GoOn many.old many.new }
+    ensures changed { result ≡ Err Changed → GivesRuns many.old runs.now → ⊥ }
     ensures failed { result ≡ Err Failed → HaveFailed many.old many.new }
 {
     let one = &runs[made.len()];
@@ -87,6 +89,7 @@ fn make_next<D: Drive>(
     ensures first { StayFirst many.old runs.now made.old.items made.new.items }
     ensures more { OnOk result (length made.old.items < length made.new.items) }
     ensures on { GoOn many.old many.new }
+    ensures changed { result ≡ Err Changed → GivesRuns many.old runs.now → ⊥ }
     ensures failed { result ≡ Err Failed → HaveFailed many.old many.new }
 {
     let next = made.len();
@@ -114,6 +117,7 @@ pub(crate) fn make_left<D: Drive>(
     ensures first { StayFirst many.old runs.now made.old.items made.new.items }
     ensures all { OnOk result (length runs.now ≤ length made.new.items) }
     ensures on { GoOn many.old many.new }
+    ensures changed { result ≡ Err Changed → GivesRuns many.old runs.now → ⊥ }
     ensures failed { result ≡ Err Failed → HaveFailed many.old many.new }
 {
     standing_stays();

@@ -1,8 +1,9 @@
 //! Files that are made one after another, begun by one drive and gone on with by others.
 ghost use Rattle.std.specs.Prelude.{◌≡◌, ◌++◌, [], Err, IfOk, OnOk};
-ghost use Rattle.br_data.specs.declared.reread_fault.AgainFault.TheVariants.{Failed};
+ghost use Rattle.br_data.specs.declared.reread_fault.AgainFault.TheVariants.{Changed, Failed};
 ghost use Rattle.br_data.specs.ManyDrives.{GoOn, HaveFailed};
-ghost use Rattle.br_reread_files.specs.Sharing.{AppendsIfGiven, AreAllIfGiven, MakesAllIfGiven};
+ghost use Rattle.br_reread_files.specs.Runs.{GivesRuns};
+ghost use Rattle.br_reread_files.specs.Sharing.{AppendsIfGiven, AreAllIfGiven, AreGivenBegun, IsBegun, MakesAllIfGiven};
 
 use crate::file_pairs::make_left;
 use br_data::{AgainFault, OverMany, standing_stays};
@@ -47,6 +48,7 @@ impl<'r, 'h> Work<'r, 'h> {
     ) -> Result<(), AgainFault>
         ensures files { OnOk result (MakesAllIfGiven many.old self.old self.new) }
         ensures on { GoOn many.old many.new }
+        ensures changed { result ≡ Err Changed → GivesRuns many.old self.old.runs.now → IsBegun self.old → ⊥ }
         ensures failed { result ≡ Err Failed → HaveFailed many.old many.new }
     {
         match self.end {
@@ -94,6 +96,7 @@ fn push_work<D: Drive>(
 ) -> Result<(), AgainFault>
     ensures files { OnOk result (AppendsIfGiven many.old work.entry made.old.items made.new.items) }
     ensures on { GoOn many.old many.new }
+    ensures changed { result ≡ Err Changed → GivesRuns many.old work.entry.runs.now → IsBegun work.entry → ⊥ }
     ensures failed { result ≡ Err Failed → HaveFailed many.old many.new }
 {
     work.finish(rt, alloc, many)?;
@@ -115,6 +118,7 @@ pub(crate) fn finish_all<D: Drive>(
 ) -> Result<Vec<(FileKey, Outcome)>, AgainFault>
     ensures files { IfOk result (λ made. AreAllIfGiven many.old works.entry.items made.items) }
     ensures on { GoOn many.old many.new }
+    ensures changed { result ≡ Err Changed → AreGivenBegun many.old works.entry.items → ⊥ }
     ensures failed { result ≡ Err Failed → HaveFailed many.old many.new }
 {
     standing_stays();

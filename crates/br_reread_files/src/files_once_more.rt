@@ -1,11 +1,11 @@
 //! Files that are made once more.
 ghost use Rattle.std.specs.Prelude.{◌≡◌, ◌<◌, ◌∷◌, ◌++◌, [], length, Ok, Err, IfOk, OnErr, OnOk};
 ghost use Rattle.std.specs.List.{AllZip};
-ghost use Rattle.br_data.specs.declared.reread_fault.AgainFault.TheVariants.{Failed};
+ghost use Rattle.br_data.specs.declared.reread_fault.AgainFault.TheVariants.{Changed, Failed};
 ghost use Rattle.br_records.specs.Runs.{AreListed};
 ghost use Rattle.br_data.specs.ManyDrives.{GoOn, HaveFailed};
 ghost use Rattle.br_sink.specs.Delivery.{items_in};
-ghost use Rattle.br_reread_files.specs.Again.{AreSameIfGiven, IsLike, MakeItem};
+ghost use Rattle.br_reread_files.specs.Again.{AreSameIfGiven, CanMakeAll, IsLike, MakeItem};
 ghost use Rattle.br_reread_parts.specs.Given.{GivesHits};
 
 use crate::likeness::is_like;
@@ -34,6 +34,7 @@ pub(crate) fn item_once_more<D: Drive>(
     ensures like { IfOk result (λ made. IsLike made item.now) }
     ensures same { IfOk result (λ made. GivesHits many.old hits.now → MakeItem hits.now key item.now → made ≡ item.now) }
     ensures on { GoOn many.old many.new }
+    ensures changed { result ≡ Err Changed → GivesHits many.old hits.now → MakeItem hits.now key item.now → ⊥ }
     ensures failed { result ≡ Err Failed → HaveFailed many.old many.new }
 {
     let (_, run, _) = around(hits, key);
@@ -72,6 +73,7 @@ pub(crate) fn made_once_more<D: Drive>(
     ensures same { IfOk result (λ made. AreSameIfGiven many.old hits.now outcomes.now made.items) }
     ensures some { OnErr result (0 < length (items_in outcomes.now)) }
     ensures on { GoOn many.old many.new }
+    ensures changed { result ≡ Err Changed → CanMakeAll many.old hits.now outcomes.now → ⊥ }
     ensures failed { result ≡ Err Failed → HaveFailed many.old many.new }
 {
     standing_stays();

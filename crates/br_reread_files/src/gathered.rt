@@ -1,18 +1,20 @@
 ghost use Rattle.std.specs.Prelude.{◌≡◌, ◌<◌, ◌≤◌, ◌==◌, length, map, nat_abs, Err, OnErr, OnOk, IfOk};
 ghost use Rattle.std.specs.List.{AllZip, list_any};
-ghost use Rattle.br_data.specs.declared.reread_fault.AgainFault.TheVariants.{Failed};
+ghost use Rattle.br_data.specs.declared.reread_fault.AgainFault.TheVariants.{Changed, Failed};
 ghost use Rattle.br_model.specs.Meaning as meaning;
 ghost use Rattle.br_model.specs.Meaning.{hits_of};
 ghost use Rattle.br_join.specs.Outcome.{restored};
 ghost use Rattle.br_data.specs.ManyDrives.{GoOn, HaveFailed};
 ghost use Rattle.br_join.specs.Runs.{files_of};
 ghost use Rattle.br_sink.specs.Delivery.{items_in};
-ghost use Rattle.br_reread_files.specs.Again.{AreSameIfGiven, IsLike};
+ghost use Rattle.br_reread_files.specs.Again.{AreSameIfGiven, CanMakeAll, IsLike};
 ghost use Rattle.br_sink.specs.declared.file_parts.PartsFault.TheVariants.{Fault};
+ghost use Rattle.br_sink.specs.declared.file_parts.PartsFault.TheVariants as why;
 ghost use Rattle.br_reread_parts.specs.FileParts.{PutsAlike};
 ghost use Rattle.br_reread_files.specs.FileParts.{GivesItem};
 ghost use Rattle.br_reread_parts.specs.Given.{GivesHits};
-ghost use Rattle.br_reread_files.specs.TwoFiles.{FailsAny, FailsEither, GivesKeyed, PutsAny, PutsTwo, files};
+ghost use Rattle.br_reread_files.specs.TwoFiles.{ChangesAny, ChangesEither, FailsAny, FailsEither, GivesKeyed, LosesAny, LosesEither};
+ghost use Rattle.br_reread_files.specs.TwoFiles.{PutsAny, PutsTwo, files};
 
 use crate::files_once_more::made_once_more;
 use crate::light_hits::lightened;
@@ -100,6 +102,7 @@ impl Gathered {
     ) -> Result<Vec<(FileKey, Outcome)>, AgainFault>
         ensures files { IfOk result (λ made. GivesHits many.old self.now.hits → map restored made.items ≡ files_of self.now.hits self.now.names) }
         ensures on { GoOn many.old many.new }
+        ensures changed { result ≡ Err Changed → GivesHits many.old self.now.hits → ⊥ }
         ensures failed { result ≡ Err Failed → HaveFailed many.old many.new }
     {
         files_by(rt, alloc, many, &self.hits, self.names.as_ref())
@@ -123,6 +126,7 @@ impl Gathered {
         ensures same { IfOk result (λ made. AreSameIfGiven many.old self.now.hits outcomes.now made.items) }
         ensures some { OnErr result (0 < length (items_in outcomes.now)) }
         ensures on { GoOn many.old many.new }
+        ensures changed { result ≡ Err Changed → CanMakeAll many.old self.now.hits outcomes.now → ⊥ }
         ensures failed { result ≡ Err Failed → HaveFailed many.old many.new }
     {
         made_once_more(alloc, many, &self.hits, outcomes)
@@ -137,7 +141,8 @@ impl Gathered {
     ///
     /// The sink has what it had; one that does not report its files may hold a part of this one.
     ///
-    /// - `NoDriveLeft` if no drive is left that gives such data.
+    /// - `NoDriveLeft` if each drive failed.
+    /// - `Changed` if the data are no longer those that were found.
     /// - `Fault` if the sink failed.
     /// - `Memory` if memory ran out.
     pub fn put_by_parts<D: Drive, S: Sink>(
@@ -153,6 +158,8 @@ impl Gathered {
         ensures refused { OnErr result (S.has sink.new ≡ S.has sink.old) }
         ensures counted { S.failures sink.old ≤ S.failures sink.new }
         ensures failed { result ≡ Err Fault → S.failures sink.old < S.failures sink.new }
+        ensures changed { result ≡ Err why.Changed → GivesItem many.old self.now.hits key item.now → ⊥ }
+        ensures lost { result ≡ Err why.NoDriveLeft → HaveFailed many.old many.new }
         ensures on { GoOn many.old many.new }
     {
         let Some(run) = plain_run(&self.hits, key, item) else {
@@ -176,6 +183,8 @@ impl Gathered {
         ensures put { PutsAny result (GivesKeyed many.old self.now one.now other.now) (files one.now other.now) (S.has sink.old) (S.has sink.new) }
         ensures counted { S.failures sink.old ≤ S.failures sink.new }
         ensures failed { FailsAny result → S.failures sink.old < S.failures sink.new }
+        ensures changed { ChangesAny result → GivesKeyed many.old self.now one.now other.now → ⊥ }
+        ensures lost { LosesAny result → HaveFailed many.old many.new }
         ensures on { GoOn many.old many.new }
     {
         let Some(run) = plain_run(&self.hits, one.key, one.item) else {
@@ -196,7 +205,7 @@ impl Gathered {
     }
 
     /// Puts two files like these, one after the other.
-    #[tactic(auto, using(br_data::proofs::GoOnLaws::go_more))]
+    #[tactic(auto, using(br_data::proofs::GoOnLaws::go_more, br_data::proofs::GoOnLaws::failed_on))]
     fn put_one_by_one<D: Drive, S: Sink>(
         &self,
         rt: &impl Threads,
@@ -209,6 +218,8 @@ impl Gathered {
         ensures put { PutsTwo result (GivesKeyed many.old self.now one.now other.now) (files one.now other.now) (S.has sink.old) (S.has sink.new) }
         ensures counted { S.failures sink.old ≤ S.failures sink.new }
         ensures failed { FailsEither result → S.failures sink.old < S.failures sink.new }
+        ensures changed { ChangesEither result → GivesKeyed many.old self.now one.now other.now → ⊥ }
+        ensures lost { LosesEither result → HaveFailed many.old many.new }
         ensures on { GoOn many.old many.new }
     {
         standing_stays();
@@ -229,7 +240,7 @@ impl Gathered {
     /// The caller makes sure that the two paths differ and that neither is below the other. If the
     /// first can't be put, neither is. A sink that does not report its files may hold a part of a
     /// file that was not put.
-    #[tactic(auto, using(br_data::proofs::GoOnLaws::go_more))]
+    #[tactic(auto, using(br_data::proofs::GoOnLaws::go_more, br_data::proofs::GoOnLaws::failed_on))]
     pub fn put_two_by_parts<D: Drive, S: Sink>(
         &self,
         rt: &impl Threads,
@@ -242,6 +253,8 @@ impl Gathered {
         ensures put { PutsTwo result (GivesKeyed many.old self.now one.now other.now) (files one.now other.now) (S.has sink.old) (S.has sink.new) }
         ensures counted { S.failures sink.old ≤ S.failures sink.new }
         ensures failed { FailsEither result → S.failures sink.old < S.failures sink.new }
+        ensures changed { ChangesEither result → GivesKeyed many.old self.now one.now other.now → ⊥ }
+        ensures lost { LosesEither result → HaveFailed many.old many.new }
         ensures on { GoOn many.old many.new }
     {
         standing_stays();

@@ -1,6 +1,6 @@
 //! A file that is made from hits; data that were let go are read again.
 ghost use Rattle.std.specs.Prelude.{◌≡◌, ◌∷◌, ◌++◌, [], map, Err, IfOk, OnErr, OnOk};
-ghost use Rattle.br_data.specs.declared.reread_fault.AgainFault.TheVariants.{Failed};
+ghost use Rattle.br_data.specs.declared.reread_fault.AgainFault.TheVariants.{Changed, Failed};
 ghost use Rattle.br_reread_parts.specs.Given.{GivesHits};
 ghost use Rattle.br_join.specs.Outcome.{restored};
 ghost use Rattle.br_data.specs.ManyDrives.{GoOn, HaveFailed};
@@ -37,6 +37,7 @@ pub(crate) fn file_by<D: Drive>(
 ) -> Result<Outcome, AgainFault>
     ensures made { IfOk result (λ outcome. GivesHits many.old run.now.hits → restored (run.now.key, outcome) ≡ file_of run.now) }
     ensures on { GoOn many.old many.new }
+    ensures changed { result ≡ Err Changed → GivesHits many.old run.now.hits → ⊥ }
     ensures failed { result ≡ Err Failed → HaveFailed many.old many.new }
 {
     let outcome = digested_by(rt, alloc, many, run.key, run.hits)?;

@@ -1,7 +1,7 @@
 //! The files of hits, made by one drive or by several drives side by side.
 ghost use Rattle.std.specs.Prelude.{◌≡◌, map, Err, IfOk};
 ghost use Rattle.std.specs.Option.{option_copied};
-ghost use Rattle.br_data.specs.declared.reread_fault.AgainFault.TheVariants.{Failed};
+ghost use Rattle.br_data.specs.declared.reread_fault.AgainFault.TheVariants.{Changed, Failed};
 ghost use Rattle.br_join.specs.Outcome.{restored};
 ghost use Rattle.br_records.specs.Runs.{AreListed};
 ghost use Rattle.br_join.specs.Runs.{file_of, files_of};
@@ -33,6 +33,7 @@ fn made_of<D: Drive + Send>(
 ) -> Result<Vec<(FileKey, Outcome)>, AgainFault>
     ensures files { IfOk result (λ made. GivesRuns many.old runs.now → map restored made.items ≡ map file_of runs.now) }
     ensures on { GoOn many.old many.new }
+    ensures changed { result ≡ Err Changed → GivesRuns many.old runs.now → ⊥ }
     ensures failed { result ≡ Err Failed → HaveFailed many.old many.new }
 {
     if many.count() > 1 && runs.len() > 1 {
@@ -62,6 +63,7 @@ pub(crate) fn files_by<D: Drive + Send>(
     ensures files { IfOk result (λ made. GivesHits many.old hits.now → map restored made.items ≡ files_of hits.now
         (option_copied names.entry)) }
     ensures on { GoOn many.old many.new }
+    ensures changed { result ≡ Err Changed → GivesHits many.old hits.now → ⊥ }
     ensures failed { result ≡ Err Failed → HaveFailed many.old many.new }
 {
     let runs = runs_of(alloc, hits, names)?;

@@ -4,8 +4,8 @@ ghost use Rattle.std.specs.List.{list_any};
 ghost use Rattle.br_model.specs.File as file;
 ghost use Rattle.br_model.specs.Meaning as meaning;
 ghost use Rattle.br_records.specs.Runs.{AreListed};
-ghost use Rattle.br_data.specs.ManyDrives.{GoOn, RereadingMany};
-ghost use Rattle.br_sink.specs.declared.file_parts.PartsFault.TheVariants.{Fault};
+ghost use Rattle.br_data.specs.ManyDrives.{GoOn, HaveFailed, RereadingMany};
+ghost use Rattle.br_sink.specs.declared.file_parts.PartsFault.TheVariants.{Changed, Fault, NoDriveLeft};
 ghost use Rattle.br_reread_parts.specs.FileParts.{GivesFile, PutsAlike};
 ghost use Rattle.br_reread_files.specs.FileParts.{GivesItem};
 
@@ -67,6 +67,8 @@ pub(crate) fn put_whole<D: Drive, S: Sink>(
     ensures refused { OnErr result (S.has sink.new ≡ S.has sink.old) }
     ensures counted { S.failures sink.old ≤ S.failures sink.new }
     ensures failed { result ≡ Err Fault → S.failures sink.old < S.failures sink.new }
+    ensures changed { result ≡ Err Changed → GivesItem many.old hits.now key item.now → ⊥ }
+    ensures lost { result ≡ Err NoDriveLeft → HaveFailed many.old many.new }
     ensures on { GoOn many.old many.new }
 {
     match item_once_more(alloc, many, hits, key, item) {
@@ -75,6 +77,7 @@ pub(crate) fn put_whole<D: Drive, S: Sink>(
             Ok(())
         }
         Err(AgainFault::Memory) => Err(PartsFault::Memory),
-        Err(AgainFault::Failed | AgainFault::Changed) => Err(PartsFault::NoDriveLeft),
+        Err(AgainFault::Failed) => Err(PartsFault::NoDriveLeft),
+        Err(AgainFault::Changed) => Err(PartsFault::Changed),
     }
 }

@@ -1,7 +1,7 @@
 //! Hits whose data are read again.
 ghost use Rattle.std.specs.Prelude.{◌≡◌, ◌∷◌, ◌++◌, [], All, Err, IfOk, OnOk};
 ghost use Rattle.std.specs.List.{AllByRecursion};
-ghost use Rattle.br_data.specs.declared.reread_fault.AgainFault.TheVariants.{Failed};
+ghost use Rattle.br_data.specs.declared.reread_fault.AgainFault.TheVariants.{Changed, Failed};
 ghost use Rattle.br_model.specs.Meaning as meaning;
 ghost use Rattle.br_model.specs.Restored as model;
 ghost use Rattle.br_reread_parts.specs.Given.{GivesHit, GivesHits};
@@ -29,6 +29,7 @@ fn read_hit<D: Drive>(
     ensures key { IfOk result (λ read. read.key ≡ hit.now.key) }
     ensures same { IfOk result (λ read. GivesHit many.old hit.now → read ≡ hit.now) }
     ensures on { GoOn many.old many.new }
+    ensures changed { result ≡ Err Changed → GivesHit many.old hit.now → ⊥ }
     ensures failed { result ≡ Err Failed → HaveFailed many.old many.new }
 {
     let data = many.read(alloc, hit.spot, &hit.data)?;
@@ -65,6 +66,7 @@ fn read_hits<D: Drive>(
     ensures keys { IfOk result (λ read. All (λ (h : meaning.Hit). h.key ≡ key) read.items) }
     ensures same { IfOk result (λ read. GivesHits many.old hits.now → read.items ≡ hits.now) }
     ensures on { GoOn many.old many.new }
+    ensures changed { result ≡ Err Changed → GivesHits many.old hits.now → ⊥ }
     ensures failed { result ≡ Err Failed → HaveFailed many.old many.new }
 {
     standing_stays();
@@ -91,6 +93,7 @@ pub(crate) fn outcome_by<D: Drive>(
     requires { AllByRecursion (λ (h : meaning.Hit). h.key ≡ key) hits.now }
     ensures made { IfOk result (λ outcome. GivesHits many.old hits.now → shown outcome ≡ model.outcome_of key (fragments hits.now)) }
     ensures on { GoOn many.old many.new }
+    ensures changed { result ≡ Err Changed → GivesHits many.old hits.now → ⊥ }
     ensures failed { result ≡ Err Failed → HaveFailed many.old many.new }
 {
     let read = read_hits(alloc, many, key, hits)?;

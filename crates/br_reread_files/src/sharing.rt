@@ -1,7 +1,7 @@
 //! Files that several drives make side by side; each drive makes some of them.
 ghost use Rattle.std.specs.Prelude.{◌≡◌, ◌+◌, ◌<◌, ◌≤◌, ◌∷◌, ◌++◌, [], drop, length, map, reverse, vec_capacity, Err, IfOk, OnOk};
 ghost use Rattle.std.specs.List.{AllByRecursion, AllZip};
-ghost use Rattle.br_data.specs.declared.reread_fault.AgainFault.TheVariants.{Failed};
+ghost use Rattle.br_data.specs.declared.reread_fault.AgainFault.TheVariants.{Changed, Failed};
 ghost use Rattle.br_join.specs.Outcome.{restored};
 ghost use Rattle.br_data.specs.ManyDrives.{GoesOn, GoOn, HaveFailed, driven_by};
 ghost use Rattle.br_join.specs.Runs.{file_of};
@@ -265,6 +265,7 @@ pub(crate) fn made_side_by_side<D: Drive + Send>(
     requires { 0 < length many.old.drives }
     ensures files { IfOk result (λ made. GivesRuns many.old runs.now → map restored made.items ≡ map file_of runs.now) }
     ensures on { GoOn many.old many.new }
+    ensures changed { result ≡ Err Changed → GivesRuns many.old runs.now → ⊥ }
     ensures failed { result ≡ Err Failed → HaveFailed many.old many.new }
 {
     standing_stays();

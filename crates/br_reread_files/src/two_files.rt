@@ -1,8 +1,8 @@
 //! Two files that are put into a sink side by side.
 ghost use Rattle.std.specs.Prelude.{◌≡◌, ◌<◌, ◌≤◌, option_map};
-ghost use Rattle.br_data.specs.ManyDrives.{GoOn};
+ghost use Rattle.br_data.specs.ManyDrives.{GoOn, HaveFailed};
 ghost use Rattle.br_reread_parts.specs.TwoParts.{GivesPlain};
-ghost use Rattle.br_reread_files.specs.TwoFiles.{FailsAny, PutsAny, done_as, plain_files};
+ghost use Rattle.br_reread_files.specs.TwoFiles.{ChangesAny, FailsAny, LosesAny, PutsAny, done_as, plain_files};
 
 use br_data::OverMany;
 use br_join::Item;
@@ -65,6 +65,8 @@ pub(crate) fn put_two<D: Drive, S: Sink>(
     ensures put { PutsAny result (GivesPlain many.old one.now other.now) (plain_files one.now other.now) (S.has sink.old) (S.has sink.new) }
     ensures counted { S.failures sink.old ≤ S.failures sink.new }
     ensures failed { FailsAny result → S.failures sink.old < S.failures sink.new }
+    ensures changed { ChangesAny result → GivesPlain many.old one.now other.now → ⊥ }
+    ensures lost { LosesAny result → HaveFailed many.old many.new }
     ensures on { GoOn many.old many.new }
 {
     let put = put_two_plain(rt, alloc, many, one, other, sink);

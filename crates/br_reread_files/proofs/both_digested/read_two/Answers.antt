@@ -1,6 +1,9 @@
 use Rattle.std.proofs.Common.{[]}
+use Rattle.std.proofs.lemmas.Result.{err_from_is_err_and}
 use Rattle.br_data.proofs.GoOnLaws.{go_more}
+use Rattle.br_reread_parts.proofs.GivenLaws.{hits_kept}
 use Rattle.br_reread_files.proofs.DigestingLaws.{whole_later, whole_read}
+use Rattle.br_reread_files.proofs.GivenLaws.{fault_again}
 use Rattle.br_reread_files.proofs.both_digested.read_two.Goals as goal
 
 pub digest_both-requires-clause-one : goal.digest_both-requires-clause-one
@@ -18,3 +21,21 @@ pub returns-clause-other : goal.returns-clause-other
 returns-clause-other g c =
     whole_later c.standing_stays.ensures c.args.many.now _ [] c.args.hits.now.other.now _ c.open.ensures.on
     (whole_read c.standing_stays.ensures _ _ [] c.args.hits.now.other.now _ _ _ c.open-2.ensures.on c.in_ok-other.ensures.read c.in_ok-digest_both.ensures.other)
+
+pub returns-in_err-other-clause-changed : goal.returns-in_err-other-clause-changed
+returns-in_err-other-clause-changed g c =
+    let p = err_from_is_err_and c.from_residual-in_err-other.result c.from_residual-in_err-other.ensures.1 in
+    rw (p.1, p.2)
+    (λ is one other.
+    c.in_err-other.ensures.changed (fault_again _ _ is) (hits_kept c.standing_stays.ensures c.args.many.now _ c.args.hits.now.other.now c.open.ensures.on other))
+
+pub returns-in_err-digest_both-clause-changed : goal.returns-in_err-digest_both-clause-changed
+returns-in_err-digest_both-clause-changed g c =
+    let first = c.args.many.now in
+    let on = go_more _ _ _ c.open.ensures.on c.open-2.ensures.on in
+    let p = err_from_is_err_and c.from_residual-in_err-digest_both.result c.from_residual-in_err-digest_both.ensures.1 in
+    rw (p.1, p.2)
+    (λ is one other.
+    c.in_err-digest_both.ensures.changed (fault_again _ _ is)
+    (hits_kept c.standing_stays.ensures first _ _ on (c.in_ok-one.ensures.read.given first one))
+    (hits_kept c.standing_stays.ensures first _ _ on (c.in_ok-other.ensures.read.given first other)))

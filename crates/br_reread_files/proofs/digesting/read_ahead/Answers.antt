@@ -1,6 +1,7 @@
 use Rattle.std.proofs.Common.{◌≡◌, ℕ, ◌+◌, List, [], ◌∷◌, ◌++◌, take, sym, ap, ◌∙◌}
 use Rattle.std.specs.Prelude.{nat_abs}
 use Rattle.std.proofs.lemmas.List.{take_all, take_more}
+use Rattle.std.proofs.lemmas.Result.{err_from_is_err_and}
 use Rattle.br_model.specs.Meaning.{Hit}
 use Rattle.br_join.specs.Plain.{plain_bytes, plain_of}
 use Rattle.br_records.specs.Records.{fragments}
@@ -11,6 +12,7 @@ use Rattle.br_reread_parts.specs.Windows.{data_bytes}
 use Rattle.br_reread_files.proofs.DigestingLaws.{keys_after, keys_before}
 use Rattle.br_reread_parts.proofs.GivenLaws.{one_of}
 use Rattle.br_reread_parts.proofs.PlainLaws.{plain_one_more}
+use Rattle.br_reread_files.proofs.GivenLaws.{fault_again}
 use Rattle.br_reread_files.proofs.digesting.read_ahead.Goals as goal
 
 pub loop-hit-init : goal.loop-hit-init
@@ -23,6 +25,16 @@ loop-hit-init g c = record {
 
 pub returns-in_err-one-clause-on : goal.returns-in_err-one-clause-on
 returns-in_err-one-clause-on g c = go_more _ _ _ c.loop-hit.invariant.on c.read_next.ensures.on
+
+pub returns-in_err-one-clause-changed : goal.returns-in_err-one-clause-changed
+returns-in_err-one-clause-changed g c =
+    let i = c.loop-hit.hit-index in
+    let x = c.hit-item.result in
+    let p = err_from_is_err_and c.from_residual-in_err-one.result c.from_residual-in_err-one.ensures.1 in
+    rw (p.1, p.2)
+    (λ is given.
+    c.in_err-one.ensures.changed (fault_again _ _ is)
+    (given_on c.standing_stays.ensures _ _ _ _ c.loop-hit.invariant.on (one_of (GivesHit c.args.many.now) c.args.hits.now i x c.loop-hit-test.true c.hit-item.is given)))
 
 pub loop-hit-preserved : goal.loop-hit-preserved
 loop-hit-preserved g c =

@@ -8,6 +8,7 @@ use Rattle.br_sink.specs.Delivery.{items_in}
 use Rattle.br_sink.proofs.DeliveryLaws.{items_fault, items_file, items_one_more}
 use Rattle.br_reread_files.specs.Again.{IsLike}
 use Rattle.br_reread_files.proofs.AgainLaws.{like_more, made_at, some_file}
+use Rattle.br_reread_files.proofs.GivenLaws.{fault_again}
 use Rattle.br_reread_parts.proofs.GivenLaws.{hits_kept}
 use Rattle.br_reread_files.proofs.files_once_more.made_once_more.Goals as goal
 use Rattle.br_reread_files.proofs.files_once_more.made_once_more.Goals.{in-File+in_ok-made+in_ok-push_item, in_default}
@@ -25,6 +26,14 @@ pub returns-in_err-made-clause-some : goal.returns-in_err-made-clause-some
 returns-in_err-made-clause-some g c =
     let p = err_from_is_err_and c.from_residual.result c.from_residual.ensures.1 in
     rw p.1 (some_file c.args.outcomes.now c.loop-key.key-index c.loop-key-item.result c.in-File.item c.loop-key-test.true c.loop-key-item.is c.in-File.is)
+
+pub returns-in_err-made-clause-changed : goal.returns-in_err-made-clause-changed
+returns-in_err-made-clause-changed g c =
+    let p = err_from_is_err_and c.from_residual.result c.from_residual.ensures.1 in
+    rw (p.1, p.2)
+    (λ is can.
+    c.in_err-made.ensures.changed (fault_again _ _ is) (hits_kept c.standing_stays.ensures _ _ c.args.hits.now c.loop-key.invariant.on can.0)
+    (made_at c.args.hits.now c.args.outcomes.now c.loop-key.key-index c.loop-key-item.result c.in-File.item c.loop-key-test.true c.loop-key-item.is c.in-File.is can.1))
 
 pub returns-in_err-made-clause-on : goal.returns-in_err-made-clause-on
 returns-in_err-made-clause-on g c = go_more _ _ _ c.loop-key.invariant.on c.item_once_more.ensures.on

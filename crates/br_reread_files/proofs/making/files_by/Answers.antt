@@ -13,3 +13,8 @@ returns-clause-files g c =
     files (subst (GivesRuns c.args.many.now) (sym c.deref.ensures.value) (given_runs c.args.many.now c.args.hits.now runs c.in_ok-runs.ensures.parts given))
     ∙ ap (map file_of) c.deref.ensures.value ∙ c.in_ok-runs.ensures.files)
     c.made_of.ensures.files
+
+pub returns-clause-changed : goal.returns-clause-changed
+returns-clause-changed g c = λ is given.
+    c.made_of.ensures.changed is
+    (subst (GivesRuns c.args.many.now) (sym c.deref.ensures.value) (given_runs c.args.many.now c.args.hits.now c.in_ok-runs.runs.items c.in_ok-runs.ensures.parts given))

@@ -1,11 +1,13 @@
 use Rattle.std.proofs.Common.{◌≡◌, [], ◌∷◌, ◌++◌, take, sym, ap, subst, ◌∙◌}
 use Rattle.std.specs.List.{AllByRecursion}
 use Rattle.std.proofs.lemmas.List.{take_all, take_more}
+use Rattle.std.proofs.lemmas.Result.{err_from_is_err_and}
 use Rattle.br_model.specs.Meaning.{Hit}
 use Rattle.br_model.proofs.ListLaws.{all_append}
 use Rattle.br_data.proofs.GoOnLaws.{given_on, go_itself, go_more}
 use Rattle.br_reread_parts.specs.Given.{GivesHit}
 use Rattle.br_reread_parts.proofs.GivenLaws.{all_from, one_of}
+use Rattle.br_reread_files.proofs.GivenLaws.{fault_again}
 use Rattle.br_reread_files.proofs.rereading.read_hits.Goals as goal
 
 pub loop-hit-init : goal.loop-hit-init
@@ -17,6 +19,16 @@ loop-hit-init g c = record {
 
 pub returns-in_err-one-clause-on : goal.returns-in_err-one-clause-on
 returns-in_err-one-clause-on g c = go_more _ _ _ c.loop-hit.invariant.on c.read_hit.ensures.on
+
+pub returns-in_err-one-clause-changed : goal.returns-in_err-one-clause-changed
+returns-in_err-one-clause-changed g c =
+    let i = c.loop-hit.hit-index in
+    let x = c.hit-item.result in
+    let p = err_from_is_err_and c.from_residual-in_err-one.result c.from_residual-in_err-one.ensures.1 in
+    rw (p.1, p.2)
+    (λ is given.
+    c.in_err-one.ensures.changed (fault_again _ _ is)
+    (given_on c.standing_stays.ensures _ _ _ _ c.loop-hit.invariant.on (one_of (GivesHit c.args.many.now) c.args.hits.now i x c.loop-hit-test.true c.hit-item.is given)))
 
 pub loop-hit-preserved : goal.loop-hit-preserved
 loop-hit-preserved g c =

@@ -18,3 +18,9 @@ returns-clause-put g c =
     (puts_if (GivesItem many hits key item) _ item had has
     (λ given. c.in-Some.ensures many (subst (λ (hs : List Hit). GivesItem many hs key item) (sym all) given)))
     c.put_plain.ensures.put
+
+pub returns-clause-changed : goal.returns-clause-changed
+returns-clause-changed g c = λ is given.
+    let many = c.args.many.now in
+    let all : c.deref.result.now ≡ c.args.self.now.hits = c.deref.ensures.value ∙ ap (λ (s : Gathered). s.hits) c.self.view_is in
+    c.put_plain.ensures.changed is (c.in-Some.ensures many (subst (λ (hs : List Hit). GivesItem many hs c.args.key c.args.item.now) (sym all) given))

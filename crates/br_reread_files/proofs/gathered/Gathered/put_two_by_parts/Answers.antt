@@ -7,3 +7,7 @@ returns-clause-put g c =
     (both_later c.standing_stays.ensures _ _ c.args.self.now.hits _ _ _ _ c.put_side_by_side.ensures.on)
     c.in_default.ensures.put
     c.put_one_by_one.ensures.put
+
+pub returns-clause-changed : goal.returns-clause-changed
+returns-clause-changed g c = λ is given.
+    c.put_one_by_one.ensures.changed is (both_later c.standing_stays.ensures _ _ c.args.self.now.hits _ _ _ _ c.put_side_by_side.ensures.on given)
