@@ -22,6 +22,7 @@ use Rattle.br_records.specs.Runs.{AreListed}
 use Rattle.br_join.specs.Runs.{files_of}
 use Rattle.br_records.proofs.SortLaws.{listed_is}
 use Rattle.br_pool.specs.Pool.{OnlyIfAllFail, StandsTold}
+use Rattle.br_pool.specs.declared.fault.PoolFault.TheVariants as pool
 use Rattle.br_pool.proofs.ListLaws.{zip_trans}
 use Rattle.br_data.specs.ManyDrives.{Driven, GoOn, GoesOn, HaveFailed, RereadingMany, driven_by}
 use Rattle.br_data.proofs.GoOnLaws.{given_on}
@@ -30,14 +31,13 @@ use Rattle.br_reread_files.specs.Gathered.{Gathered}
 use Rattle.br_reread_parts.specs.Given.{GivesHit, GivesHits}
 use Rattle.br_reread_files.proofs.AgainLaws.{all_made}
 use Rattle.br_reread_files.proofs.MeantLaws.{ShowsThem, meant_given}
-use Rattle.br_engine.specs.DeliveredAgain.{CanGive, CanMake, CanReread, GivesAgain, MadeOver, MakesOver}
+use Rattle.br_engine.specs.DeliveredAgain.{CanGive, CanMake, CanReread, ChangedJoined, GivesAgain, MadeOver, MakesOver}
 use Rattle.br_engine.specs.Extracting.{GivesOver, WritesNothing}
 use Rattle.br_engine.specs.Fault.{IsNoDriveLeft, IsUnmade, OfAgain, fault_number}
-use Rattle.br_engine.specs.Restoring.{AllStand, JoinsOver, Told}
+use Rattle.br_engine.specs.Restoring.{AllStand, JoinsOver, NoneStandBy, Told}
 use Rattle.br_engine.specs.declared.fault.ExtractFault.{ExtractFault}
 use Rattle.br_engine.specs.declared.fault.ExtractFault.TheVariants as fault
 use Rattle.br_engine.specs.declared.made.MadeFiles.{MadeFiles}
-use Rattle.br_engine.proofs.DeliverLaws.{free_is_no_drive}
 use Rattle.br_engine.proofs.ExtractLaws.{gives_files}
 use Rattle.br_engine.proofs.JoinLaws.{files_of_hits}
 
@@ -145,6 +145,11 @@ files_are hits names sorted = ap (λ (es : HitList). files_listed es (option_map
 pub many_is : (m : RereadingMany) (ds : List Driven) (gs : List Group) → m.drives ≡ ds → m.groups ≡ gs → record { drives = ds; groups = gs } ≡ m
 many_is m ds gs e f i = record { drives = sym e i; groups = sym f i }
 
+-- what was gathered can be read again
+pub can_give : (m : RereadingMany) (g : Gathered) (hits : Hits) (ds : List Driven) (gs : List Group) → hits_of g.hits ≡ hits → AreListed g.hits → m.drives ≡ ds → m.groups ≡ gs
+    → ((found : List Hit) → hits_of found ≡ hits → AreListed found → GivesHits (record { drives = ds; groups = gs }) found) → GivesHits m g.hits
+can_give m g hits ds gs same sorted driven grouped given = subst (λ (n : RereadingMany). GivesHits n g.hits) (many_is m ds gs driven grouped) (given g.hits same sorted)
+
 module _ (m : RereadingMany) (g : Gathered) (hits : Hits) (names : Option Names) (rs : List Restored) (ds : List Driven) (gs : List Group)
     (same : hits_of g.hits ≡ hits) (named : g.names ≡ names) (sorted : AreListed g.hits) (driven : m.drives ≡ ds) (grouped : m.groups ≡ gs)
     (made : GivesHits m g.hits → rs ≡ files_of g.hits g.names)
@@ -173,14 +178,24 @@ only_failed again.Memory e of is = absurd (no_one (ap fault_number (sym of) ∙ 
     no_one : ◌≡◌ {A = Option ℕ} (Some 1) (Some 70) → ⊥
     no_one e = let n : ◌≡◌ {A = ℕ} 1 70 = cc in omega (arith, n)
 only_failed again.Failed e of is = refl
-only_failed again.Changed e of is = absurd (free_is_no_drive e of is)
+only_failed again.Changed e of is = absurd (no_two (ap fault_number (sym of) ∙ is))
+  where
+    no_two : ◌≡◌ {A = Option ℕ} (Some 72) (Some 70) → ⊥
+    no_two e = let n : ◌≡◌ {A = ℕ} 72 70 = cc in omega (arith, n)
+
+-- data are not read again since a volume was changed, if that is the fault
+pub only_changed : (f : AgainFault) (e : ExtractFault) → OfAgain f e → e ≡ fault.Changed → f ≡ again.Changed
+only_changed again.Memory e of is = let both : fault.Memory ≡ fault.Changed = sym of ∙ is in absurd cc
+only_changed again.Failed e of is = let both : fault.Piece pool.NoDriveLeft ≡ fault.Changed = sym of ∙ is in absurd cc
+only_changed again.Changed e of is = refl
 
 -- nothing is said of the files if they were not made
 unmade_gives : (earlier later : Told) (groups : List Group) (names : Option (List Planned)) (f : ExtractFault) → IsUnmade f → GivesOver earlier later groups names (Err f)
 unmade_gives earlier later groups names fault.Memory is = λ volumes stands. tt
 unmade_gives earlier later groups names (fault.Bootstrap why) is = absurd is
 unmade_gives earlier later groups names (fault.Piece why) is = rw is (λ volumes stands. tt)
-unmade_gives earlier later groups names (fault.Io why) is = λ volumes stands. tt
+unmade_gives earlier later groups names fault.Changed is = λ volumes stands. tt
+unmade_gives earlier later groups names (fault.Io why) is = absurd is
 unmade_gives earlier later groups names (fault.NoEnd turns) is = absurd is
 
 module _ {D : Type 0} (shows : D → Option (List Volume)) (failures : D → ℕ) (stand : HitsStand) (stays : StandingStays) (groups : List Group) (xs ys zs : List D)
@@ -211,6 +226,12 @@ module _ {D : Type 0} (shows : D → Option (List Volume)) (failures : D → ℕ
       → IfOk result (λ (m : MadeFiles). GivesAgain shows failures xs zs groups m)
   made_gives (Err f) gives = tt
   made_gives (Ok m) gives = λ volumes stands. gives (can_reread volumes stands)
+
+  -- a volume was changed only if there are none that they may be taken to show
+  pub made_changed : (result : Result MadeFiles ExtractFault) → IfErr result (ChangedJoined shows failures ys groups joining)
+      → IfErr result (λ (why : ExtractFault). why ≡ fault.Changed → NoneStandBy shows xs zs groups)
+  made_changed (Ok m) changed = tt
+  made_changed (Err f) changed = λ is volumes stands. changed is (can_reread volumes stands)
 
 -- drives that failed after they had stayed in their places
 pub fails_later : {D A : Type 0} (shows : D → Option (List Volume)) (failures : D → ℕ) (xs ys zs : List D) (result : Result A ExtractFault)
@@ -259,5 +280,6 @@ pub nothing_written : (before : Option (List ℕ)) (f : ExtractFault) → Writes
 nothing_written before fault.Memory = Keeps-refl before
 nothing_written before (fault.Bootstrap why) = Keeps-refl before
 nothing_written before (fault.Piece why) = Keeps-refl before
+nothing_written before fault.Changed = Keeps-refl before
 nothing_written before (fault.Io why) = tt
 nothing_written before (fault.NoEnd turns) = Keeps-refl before

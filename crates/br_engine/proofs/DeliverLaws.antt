@@ -12,14 +12,14 @@ use Rattle.br_bsr.specs.Fault as bootstrap
 use Rattle.br_bsr.specs.declared.fault.BsrFault.{BsrFault}
 use Rattle.br_engine.specs.Fault.{cause, EndlessAfterAll, IsNoDriveLeft, IsFree, IsNoLine, IsUnread}
 use Rattle.br_engine.specs.BootstrapText.{ReadsAs}
-use Rattle.br_engine.specs.Restoring.{Told}
+use Rattle.br_engine.specs.Restoring.{NoneStand, Told}
 use Rattle.br_engine.specs.Outputs.{InSink, are_files, end_of_files}
-use Rattle.br_engine.specs.Extracting.{GivesOver, OverText, OverVolumes, Said, WritesNothing, extracted}
+use Rattle.br_engine.specs.Extracting.{GivesOver, NoneStandForText, OverText, OverVolumes, Said, WritesNothing, extracted}
 use Rattle.br_engine.specs.Delivering.{Delivers, EndsWith, IsDelivered}
 use Rattle.br_engine.specs.declared.restore_end.RestoreEnd.{RestoreEnd}
 use Rattle.br_engine.specs.declared.restore_end.RestoreEnd.TheVariants.{AllFiles, SomeFaults}
 use Rattle.br_engine.specs.declared.fault.ExtractFault.{ExtractFault}
-use Rattle.br_engine.specs.declared.fault.ExtractFault.TheVariants.{Memory, Bootstrap, Piece, Io, NoEnd}
+use Rattle.br_engine.specs.declared.fault.ExtractFault.TheVariants.{Memory, Bootstrap, Piece, Changed, Io, NoEnd}
 use Rattle.br_engine.proofs.ExtractLaws.{over_no_text, over_text}
 
 -- ---- the end of a restore
@@ -55,12 +55,14 @@ gives_free earlier later groups names Memory free = λ volumes stands. tt
 gives_free earlier later groups names (Io fault) free = λ volumes stands. tt
 gives_free earlier later groups names (Bootstrap fault) free = absurd free
 gives_free earlier later groups names (Piece fault) free = absurd free
+gives_free earlier later groups names Changed free = absurd free
 gives_free earlier later groups names (NoEnd turns) free = absurd free
 
 pub free_is_no_line : (fault : ExtractFault) → IsFree fault → IsNoLine fault
 free_is_no_line Memory free = tt
 free_is_no_line (Bootstrap fault) free = absurd free
 free_is_no_line (Piece fault) free = tt
+free_is_no_line Changed free = tt
 free_is_no_line (Io fault) free = tt
 free_is_no_line (NoEnd turns) free = absurd free
 
@@ -69,6 +71,7 @@ pub no_line_has_end : (fault : ExtractFault) → IsNoLine fault → EndlessAfter
 no_line_has_end Memory none = tt
 no_line_has_end (Bootstrap fault) none = absurd none
 no_line_has_end (Piece fault) none = tt
+no_line_has_end Changed none = tt
 no_line_has_end (Io fault) none = tt
 no_line_has_end (NoEnd turns) none = absurd none
 
@@ -76,8 +79,17 @@ pub free_is_no_drive : (fault : ExtractFault) → IsFree fault → IsNoDriveLeft
 free_is_no_drive Memory free e = absurd cc
 free_is_no_drive (Bootstrap fault) free e = free
 free_is_no_drive (Piece fault) free e = free
+free_is_no_drive Changed free e = free
 free_is_no_drive (Io fault) free e = absurd cc
 free_is_no_drive (NoEnd turns) free e = free
+
+pub free_is_no_change : (fault : ExtractFault) → IsFree fault → fault ≡ Changed → ⊥
+free_is_no_change Memory free e = absurd cc
+free_is_no_change (Bootstrap fault) free e = free
+free_is_no_change (Piece fault) free e = free
+free_is_no_change Changed free e = free
+free_is_no_change (Io fault) free e = absurd cc
+free_is_no_change (NoEnd turns) free e = free
 
 -- ---- over what a reader had left
 
@@ -98,6 +110,12 @@ pub over_read : (known : Option (List ℕ)) (earlier later : Told) (text : List 
     → OverVolumes earlier later groups None P → OverText known earlier later P
 over_read known earlier later text groups P alike read given = over_reader known earlier later text P alike (over_text (Some text) earlier later text groups P refl read given)
 
+-- there are no volumes for the bootstrap of such a text
+pub none_read : (known : Option (List ℕ)) (earlier later : Told) (text : List ℕ) (groups : List Group) → ReadsAs text known → read_bootstrap text ≡ Ok groups
+    → NoneStand earlier later groups → NoneStandForText known earlier later
+none_read None earlier later text groups alike read none = tt
+none_read (Some bytes) earlier later text groups alike read none = λ volumes stands. none volumes (stands groups (sym alike ∙ read))
+
 -- a line of such a text is refused
 pub read_refused : (known : Option (List ℕ)) (earlier later : Told) (before : Option (List ℕ)) (had : InSink) (text : List ℕ) (fault : BsrFault)
     → ReadsAs text known → IsRefusal (bootstrap.cause fault) (read_bootstrap text)
@@ -116,4 +134,5 @@ reader_free known earlier later before had Memory is = (free known earlier later
 reader_free known earlier later before had (Io fault) is = (free known earlier later, tt, refl)
 reader_free known earlier later before had (Bootstrap fault) is = absurd is
 reader_free known earlier later before had (Piece fault) is = absurd is
+reader_free known earlier later before had Changed is = absurd is
 reader_free known earlier later before had (NoEnd turns) is = (free known earlier later, Keeps-refl before, refl)

@@ -1,16 +1,17 @@
 -- How a restore ends whose files were made once more.
-use Rattle.std.proofs.Common.{◌≡◌, ◌≤◌, ℕ, zero, suc, Bool, cond, List, [], ◌∷◌, ◌++◌, length, take, drop, Option, Some, Ok, Err, refl, ap, sym, subst, arith, ◌∙◌, append-nil}
+use Rattle.std.proofs.Common.{◌≡◌, ◌≤◌, ℕ, zero, suc, Bool, true, false, cond, List, [], ◌∷◌, ◌++◌, length, take, drop, Option, Some, Ok, Err, refl, ap, sym, subst, arith, ◌∙◌, append-nil}
 use Rattle.std.specs.List.{AllZip}
 use Rattle.br_model.specs.Answer.{IsRefusal}
 use Rattle.br_model.specs.Delivery.{Stop}
 use Rattle.br_model.specs.File.{Item}
 use Rattle.br_model.specs.Restored.{Restored}
 use Rattle.br_reread_files.specs.Again.{IsLike}
-use Rattle.br_sink.specs.Delivery.{IsStopIn, stop_cause}
+use Rattle.br_sink.specs.Delivery.{stop_cause}
 use Rattle.br_sink.specs.Sink.{HasMore}
 use Rattle.br_engine.specs.DeliveredAgain.{DeliversAll, EndsLike, PutsLike}
 use Rattle.br_engine.specs.Delivering.{EndsWith, items_of}
-use Rattle.br_engine.specs.Outputs.{InSink, end_of_files}
+use Rattle.br_engine.specs.Outputs.{InSink, StopsOnlyIf, are_files, end_of_files}
+use Rattle.br_engine.specs.Stopping.{IsRestoreStop}
 use Rattle.br_engine.specs.declared.restore_end.RestoreEnd.{RestoreEnd}
 use Rattle.br_engine.specs.declared.restore_end.RestoreEnd.TheVariants.{AllFiles, SomeFaults, Stopped}
 use Rattle.br_engine.proofs.DeliverLaws.{ends_whole}
@@ -55,7 +56,7 @@ all_put given had has os end puts all is =
 
 -- the delivery stopped
 pub some_put : (given : Type 0) (had has : Option (List Item)) (os : List Restored) (stop : Stop) → PutsLike {A = Unit {0}} given (items_of os) had has (Err stop)
-    → DeliversAll (Err stop) os → IsStopIn (items_of os) stop → EndsLike given (Some had) (Some has) os (Stopped stop)
+    → DeliversAll (Err stop) os → IsRestoreStop (items_of os) stop → EndsLike given (Some had) (Some has) os (Stopped stop)
 some_put given had has os stop puts refused is =
     let items = items_of os in
     let n = stop.done in
@@ -78,3 +79,19 @@ some_put given had has os stop puts refused is =
         ),
       );
     }
+
+-- ---- a stop by a number
+
+-- a delivery that does not stop
+pub never_stops : (number : ℕ) (claim : Type 0) (rs : List Restored) (end : RestoreEnd) → end ≡ end_of_files rs → StopsOnlyIf number claim end
+never_stops number claim rs end is = subst (λ (e : RestoreEnd). StopsOnlyIf number claim e) (sym is) (go (are_files rs))
+  where
+    go : (b : Bool) → StopsOnlyIf number claim (cond b AllFiles SomeFaults)
+    go true = tt
+    go false = tt
+
+-- what follows from what is so at a stop by the number
+pub stops_weaker : (number : ℕ) (claim more : Type 0) (end : RestoreEnd) → (claim → more) → StopsOnlyIf number claim end → StopsOnlyIf number more end
+stops_weaker number claim more AllFiles so stops = tt
+stops_weaker number claim more SomeFaults so stops = tt
+stops_weaker number claim more (Stopped stop) so stops = λ is. so (stops is)

@@ -11,10 +11,10 @@ use Rattle.br_model.specs.Name.{FileKey}
 use Rattle.br_model.specs.Restored.{Restored}
 use Rattle.br_model.specs.Text.{escaped, hexadecimal, line, signed_decimal}
 use Rattle.br_reread_files.specs.Again.{IsLike}
-use Rattle.br_sink.specs.Delivery.{IsStopIn}
 use Rattle.br_engine.specs.DeliveredAgain.{IsFileLike, IsOutcomeLike}
 use Rattle.br_engine.specs.Delivering.{items_of}
 use Rattle.br_engine.specs.Outputs.{are_files}
+use Rattle.br_engine.specs.Stopping.{IsRestoreStop}
 
 like_itself : (item : Item) → IsLike item item
 like_itself item = record { path = refl; kind = refl; stat = refl; link = refl; skipped = refl; bytes = (refl, refl) }
@@ -138,7 +138,7 @@ pub same_delivery : (rs os : List Restored) → AllZip IsFileLike rs os → deli
 unfolding delivery
 same_delivery rs os like = rw (same_putting [] (items_of rs) (items_of os) (items_like rs os like), same_totals rs os like) refl
 
-pub same_stop : (rs os : List Restored) (stop : Stop) → AllZip IsFileLike rs os → IsStopIn (items_of os) stop → IsStopIn (items_of rs) stop
+pub same_stop : (rs os : List Restored) (stop : Stop) → AllZip IsFileLike rs os → IsRestoreStop (items_of os) stop → IsRestoreStop (items_of rs) stop
 same_stop rs os stop like is =
     let each = items_like rs os like in
     record {

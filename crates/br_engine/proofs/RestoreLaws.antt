@@ -33,10 +33,11 @@ use Rattle.br_types.specs.declared.wanted.Stops.TheVariants.{AtFirst, Never}
 use Rattle.br_types.specs.declared.wanted.Wanted.{Wanted}
 use Rattle.br_sink.specs.ConflictsApart.{apart_beside, is_free, with_path}
 use Rattle.br_engine.specs.WantedOutcomes.{delivered, kept, left_out, of_copies, plain, reported}
-use Rattle.br_engine.specs.Restores.{Change, Extracts, Restores}
+use Rattle.br_engine.specs.Restores.{Change, Extracts, OnlyIfChanged, Restores}
 use Rattle.br_engine.specs.declared.extracted.Extracted.{Extracted}
 use Rattle.br_engine.specs.declared.restore_order.RestoreOrder.{RestoreOrder}
 use Rattle.br_engine.proofs.BackLaws.{in_places, same_report}
+use Rattle.br_engine.proofs.EndLaws.{stops_weaker}
 
 -- ---- the newest copies
 
@@ -166,3 +167,10 @@ text_restores known earlier later before after had has text groups reports (Ok d
     (h.0, (over_read known earlier later text groups (λ expected. expected ≡ Ok h.0) alike read h.1.0, h.1.1), h.2, h.3, h.4, h.5)
 text_restores known earlier later before after had has text groups reports (Err fault) alike read h =
     (over_read known earlier later text groups (λ expected. IsRefusal (cause fault) expected) alike read h.0, h.1, h.2)
+
+-- ---- a volume that was changed
+
+-- what follows from that
+pub changed_weaker : (claim more : Type 0) (result : Result Extracted ExtractFault) → (claim → more) → OnlyIfChanged claim result → OnlyIfChanged more result
+changed_weaker claim more (Ok done) so only = stops_weaker 72 claim more done.end so only
+changed_weaker claim more (Err why) so only = λ is. so (only is)

@@ -18,9 +18,10 @@ use Rattle.br_reread_files.specs.Again.{IsLike}
 use Rattle.br_reread_parts.specs.FileParts.{PutsAlike}
 use Rattle.br_reread_files.specs.FileParts.{GivesItem}
 use Rattle.br_reread_files.specs.Gathered.{Gathered}
-use Rattle.br_reread_files.specs.TwoFiles.{GivesBoth, PutsBoth}
+use Rattle.br_reread_files.specs.TwoFiles.{GivesBoth, GivesKeyed, PutsBoth}
 use Rattle.br_reread_files.specs.declared.two_files.KeyedItem.{KeyedItem}
 use Rattle.br_sink.specs.Delivery.{AreApart, IsStopBelow, IsStopIn, StandApart, items_in, items_put, stop_cause}
+use Rattle.std.proofs.lemmas.Result.{IfErr-weaker}
 use Rattle.br_sink.specs.FileParts.{AreAlike, parts_number, with_bytes}
 use Rattle.br_sink.specs.Sink.{HasMore}
 use Rattle.br_sink.specs.declared.file_parts.PartsFault.{PartsFault}
@@ -28,7 +29,8 @@ use Rattle.br_sink.specs.declared.file_parts.PartsFault.TheVariants as parts
 use Rattle.br_sink.proofs.DeliveryLaws.{apart_taken, fewer_items, items_of_both, more_behind, none_more, taken_items}
 use Rattle.br_data.specs.declared.reread_fault.AgainFault.{AgainFault}
 use Rattle.br_data.specs.declared.reread_fault.AgainFault.TheVariants as again
-use Rattle.br_engine.specs.DeliveredAgain.{CanMake, IsStopAgain, PutsLike, PutsTwoAgain, again_number, keyed}
+use Rattle.br_engine.specs.DeliveredAgain.{CanMake, PutsLike, PutsTwoAgain, keyed}
+use Rattle.br_engine.specs.Stopping.{IsChangedOnly, IsRestoreStop, IsStopAgain, again_number}
 use Rattle.br_engine.specs.Delivering.{items_of}
 use Rattle.br_engine.proofs.LikeLaws.{like_length, like_take}
 use Rattle.std.proofs.Math.Seq.{take-add, take-append-add, take-length}
@@ -38,25 +40,55 @@ use Rattle.br_sink.proofs.PassingLaws.{counted}
 
 -- such a stop is one of the delivery
 pub again_below : (os : List (FileKey × Outcome)) (place files : ℕ) → StandApart os place files → (stop : Stop) → IsStopAgain (length (items_in (take place os))) stop
-    → IsStopIn (items_in os) stop
+    → IsRestoreStop (items_in os) stop
 again_below os place files stands stop below =
     let fewer = fewer_items os place in
     let apart_at : (n : ℕ) → n ≤ length (items_in (take place os)) → AreApart (take n (items_in os)) =
     λ n few. subst AreApart (sym (taken_items os place n few)) (apart_taken (items_in (take place os)) n stands.apart) in record {
       number = elim below.number [
         | inl one ↦ inl one
-        | inr other ↦ elim other [ inl eighty ↦ inr (inl eighty) | inr seventy ↦ inr (inr (inr seventy)) ]
+        | inr other ↦ elim other [ inl eighty ↦ inr (inl eighty) | inr again ↦ inr (inr (inr again)) ]
       ];
       within = omega (arith, below.within, fewer);
       before = apart_at stop.done (omega (arith, below.within));
       at_it = λ _. apart_at (stop.done + 1) (omega (arith, below.within));
     }
 
+-- so is a stop of a delivery in memory
+pub held_stop : (items : List Item) (stop : Stop) → IsStopIn items stop → IsRestoreStop items stop
+held_stop items stop is = record {
+  number = elim is.number [
+    | inl one ↦ inl one
+    | inr other ↦ elim other [ inl eighty ↦ inr (inl eighty) | inr conflict ↦ inr (inr (inl conflict)) ]
+  ];
+  within = is.within;
+  before = is.before;
+  at_it = is.at_it;
+}
+
+-- which is neither 70 nor 72
+pub held_only : (items : List Item) (stop : Stop) (n : ℕ) → (n ≡ 1 → ⊥) → (n ≡ 80 → ⊥) → (n ≡ 81 → ⊥) → IsStopIn items stop → stop.number ≡ n → ⊥
+held_only items stop n not_1 not_80 not_81 is at = elim is.number [
+  | inl one ↦ not_1 (sym at ∙ one)
+  | inr other ↦ elim other [ inl eighty ↦ not_80 (sym at ∙ eighty) | inr conflict ↦ not_81 (sym at ∙ conflict) ]
+]
+
+-- and so is one of a sink
+pub below_only : (count : ℕ) (stop : Stop) (n : ℕ) → (n ≡ 1 → ⊥) → (n ≡ 80 → ⊥) → IsStopBelow count stop → stop.number ≡ n → ⊥
+below_only count stop n not_1 not_80 is at = elim is.number [ inl one ↦ not_1 (sym at ∙ one) | inr eighty ↦ not_80 (sym at ∙ eighty) ]
+
+-- a stop by another number
+pub not_changed : (given : Type 0) (number done : ℕ) → (number ≡ 72 → ⊥) → IsChangedOnly given (record { number = number; done = done })
+not_changed given number done other = λ is. absurd (other is)
+
 -- and it says nothing of the model
 pub no_cause_again : (stop : Stop) (rs : List Restored) (count : ℕ) → IsStopAgain count stop → IsRefusal (stop_cause stop) (delivery rs)
 no_cause_again stop rs count is = elim is.number [
   | inl one ↦ rw one tt
-  | inr other ↦ elim other [ inl eighty ↦ rw eighty tt | inr seventy ↦ rw seventy tt ]
+  | inr other ↦ elim other [
+    | inl eighty ↦ rw eighty tt
+    | inr again ↦ elim again [ inl seventy ↦ rw seventy tt | inr changed ↦ rw changed tt ]
+  ]
 ]
 
 -- ---- what was put
@@ -121,11 +153,23 @@ pub stops_of_sink : {A : Type 0} (made items : List Item) (r : Result A Stop) �
 stops_of_sink made items (Ok a) like below = tt
 stops_of_sink made items (Err stop) like below = stop_of_sink made items stop like below
 
+-- only a failed drive is 70
+pub again_at_70 : (fault : AgainFault) → again_number fault ≡ 70 → fault ≡ again.Failed
+again_at_70 again.Memory is = absurd (omega (arith, is))
+again_at_70 again.Failed is = refl
+again_at_70 again.Changed is = absurd (omega (arith, is))
+
+-- only a changed volume is 72
+pub again_at_72 : (fault : AgainFault) → again_number fault ≡ 72 → fault ≡ again.Changed
+again_at_72 again.Memory is = absurd (omega (arith, is))
+again_at_72 again.Failed is = absurd (omega (arith, is))
+again_at_72 again.Changed is = refl
+
 -- no file was made once more
 pub stop_of_again : (items : List Item) (fault : AgainFault) → 0 < length items → IsStopAgain (length items) (record { number = again_number fault; done = 0 })
 stop_of_again items again.Memory some = record { number = inl refl; within = some }
-stop_of_again items again.Failed some = record { number = inr (inr refl); within = some }
-stop_of_again items again.Changed some = record { number = inr (inr refl); within = some }
+stop_of_again items again.Failed some = record { number = inr (inr (inl refl)); within = some }
+stop_of_again items again.Changed some = record { number = inr (inr (inr refl)); within = some }
 
 pub put_none : {A : Type 0} (given : Type 0) (items : List Item) (has : Option (List Item)) (number : ℕ) → PutsLike {A = A} given items has has (Err (record { number = number; done = 0 }))
 put_none given items has number = record { put = []; like = tt; same = λ _. refl; more = none_more has }
@@ -217,13 +261,29 @@ none_alike given items had has number same = record {
 pub stops_alone : (fault : PartsFault) (done count : ℕ) → done < count → IsStopAgain count (record { number = parts_number fault; done = done })
 stops_alone parts.Memory done count few = record { number = inl refl; within = few }
 stops_alone parts.Fault done count few = record { number = inr (inl refl); within = few }
-stops_alone parts.NoDriveLeft done count few = record { number = inr (inr refl); within = few }
+stops_alone parts.NoDriveLeft done count few = record { number = inr (inr (inl refl)); within = few }
+stops_alone parts.Changed done count few = record { number = inr (inr (inr refl)); within = few }
 
 -- only a sink that failed is 80
 pub parts_at_80 : (fault : PartsFault) → parts_number fault ≡ 80 → fault ≡ parts.Fault
 parts_at_80 parts.Memory is = absurd (omega (arith, is))
 parts_at_80 parts.Fault is = refl
 parts_at_80 parts.NoDriveLeft is = absurd (omega (arith, is))
+parts_at_80 parts.Changed is = absurd (omega (arith, is))
+
+-- only a lost drive is 70
+pub parts_at_70 : (fault : PartsFault) → parts_number fault ≡ 70 → fault ≡ parts.NoDriveLeft
+parts_at_70 parts.Memory is = absurd (omega (arith, is))
+parts_at_70 parts.Fault is = absurd (omega (arith, is))
+parts_at_70 parts.NoDriveLeft is = refl
+parts_at_70 parts.Changed is = absurd (omega (arith, is))
+
+-- only a changed volume is 72
+pub parts_at_72 : (fault : PartsFault) → parts_number fault ≡ 72 → fault ≡ parts.Changed
+parts_at_72 parts.Memory is = absurd (omega (arith, is))
+parts_at_72 parts.Fault is = absurd (omega (arith, is))
+parts_at_72 parts.NoDriveLeft is = absurd (omega (arith, is))
+parts_at_72 parts.Changed is = refl
 
 -- the same, if what gives these files gives less
 puts_given : {A : Type 0} (given less : Type 0) (items : List Item) (had has : Option (List Item)) (result : Result A Stop) → (given → less) → PutsLike less items had has result
@@ -241,6 +301,13 @@ puts_window many gathered key item window had has result is puts =
 pub stops_window : {A : Type 0} (key : FileKey) (item : Item) (window : List (FileKey × Outcome)) (result : Result A Stop)
     → window ≡ (key, File item) ∷ [] → IfErr result (IsStopAgain 1) → IfErr result (IsStopAgain (length (items_in window)))
 stops_window key item window result is stops = subst (λ (os : List (FileKey × Outcome)). IfErr result (IsStopAgain (length (items_in os)))) (sym is) stops
+
+pub changed_window : {A : Type 0} (many : RereadingMany) (gathered : Gathered) (key : FileKey) (item : Item) (window : List (FileKey × Outcome)) (result : Result A Stop)
+    → window ≡ (key, File item) ∷ [] → IfErr result (IsChangedOnly (GivesItem many gathered.hits key item))
+    → IfErr result (IsChangedOnly (CanMake many gathered (map restored window)))
+changed_window many gathered key item window result is changed =
+    subst (λ (os : List (FileKey × Outcome)). IfErr result (IsChangedOnly (CanMake many gathered (map restored os)))) (sym is)
+    (IfErr-weaker result _ _ (λ stop only at can. only at (can.0, can.1.0)) changed)
 
 -- ---- two files that are put side by side
 
@@ -276,3 +343,10 @@ puts_two_window many gathered one other window had has result is puts =
 pub stops_two_window : {A : Type 0} (one other : KeyedItem) (window : List (FileKey × Outcome)) (result : Result A Stop)
     → window ≡ keyed one ∷ keyed other ∷ [] → IfErr result (IsStopAgain 2) → IfErr result (IsStopAgain (length (items_in window)))
 stops_two_window one other window result is stops = subst (λ (os : List (FileKey × Outcome)). IfErr result (IsStopAgain (length (items_in os)))) (sym is) stops
+
+pub changed_two_window : {A : Type 0} (many : RereadingMany) (gathered : Gathered) (one other : KeyedItem) (window : List (FileKey × Outcome)) (result : Result A Stop)
+    → window ≡ keyed one ∷ keyed other ∷ [] → IfErr result (IsChangedOnly (GivesKeyed many gathered one other))
+    → IfErr result (IsChangedOnly (CanMake many gathered (map restored window)))
+changed_two_window many gathered one other window result is changed =
+    subst (λ (os : List (FileKey × Outcome)). IfErr result (IsChangedOnly (CanMake many gathered (map restored os)))) (sym is)
+    (IfErr-weaker result _ _ (λ stop only at can. only at ((can.0, can.1.0), (can.0, can.1.1.0))) changed)

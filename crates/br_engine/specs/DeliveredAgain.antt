@@ -1,5 +1,5 @@
 -- Files that are made once more for their delivery.
-use Rattle.std.specs.Prelude.{◌≡◌, ◌⊎◌, ◌<◌, ℕ, List, [], ◌∷◌, map, Option, option_map, Some, None, Result, Ok, Err, ⊤}
+use Rattle.std.specs.Prelude.{◌≡◌, ℕ, List, [], ◌∷◌, map, Option, option_map, Some, None, Result, Ok, Err, ⊤}
 use Rattle.std.specs.List.{AllByRecursion, AllZip}
 use Rattle.br_model.specs.Bootstrap.{Group}
 use Rattle.br_model.specs.Answer.{Answers, IsRefusal}
@@ -22,19 +22,18 @@ use Rattle.br_reread_files.specs.TwoFiles.{GivesBoth}
 use Rattle.br_reread_files.specs.declared.two_files.KeyedItem.{KeyedItem}
 use Rattle.br_reread_parts.specs.Given.{GivesHits}
 use Rattle.br_data.specs.ManyDrives.{RereadingMany, driven_by}
-use Rattle.br_data.specs.declared.reread_fault.AgainFault.{AgainFault}
-use Rattle.br_data.specs.declared.reread_fault.AgainFault.TheVariants as again
 use Rattle.br_sink.specs.Delivery.{items_in, items_put, stop_cause}
 use Rattle.br_sink.specs.Sink.{HasMore}
 use Rattle.br_engine.specs.Delivering.{EndsWith}
 use Rattle.br_engine.specs.Extracting.{OverVolumes}
 use Rattle.br_engine.specs.Fault.{cause}
-use Rattle.br_engine.specs.Outputs.{InSink}
+use Rattle.br_engine.specs.Outputs.{InSink, StopsOnlyIf}
 use Rattle.br_engine.specs.Restoring.{AllStand}
 use Rattle.br_engine.specs.declared.delivered_again.RereadSource.{RereadSource}
 use Rattle.br_engine.specs.declared.delivered_again.PutStep.{PutStep}
 use Rattle.br_engine.specs.declared.delivered_again.PutStep.TheVariants.{Alone, Two, Together}
 use Rattle.br_engine.specs.declared.fault.ExtractFault.{ExtractFault}
+use Rattle.br_engine.specs.declared.fault.ExtractFault.TheVariants.{Changed}
 use Rattle.br_engine.specs.declared.made.MadeFiles.{MadeFiles}
 use Rattle.br_engine.specs.declared.restore_end.RestoreEnd.{RestoreEnd}
 
@@ -95,12 +94,6 @@ IsWindowOf outcomes (Alone one) = outcomes ≡ keyed one ∷ []
 IsWindowOf outcomes (Two one other) = outcomes ≡ keyed one ∷ keyed other ∷ []
 IsWindowOf outcomes Together = ⊤
 
--- a stop after fewer than this number of files: memory ran out (1), no drive is left (70), or the
--- sink failed
-pub record IsStopAgain (count : ℕ) (stop : Stop) : Type 0 where
-  pub number : (stop.number ≡ 1) ⊎ (stop.number ≡ 80) ⊎ (stop.number ≡ 70)
-  pub within : stop.done < count
-
 -- a restore ends so, with files that are like these; they are these if these can be given
 pub record EndsLike (given : Type 0) (had has : InSink) (os : List Restored) (end : RestoreEnd) : Type 0 where
   pub rs : List Restored
@@ -126,11 +119,16 @@ abbrev pub EndsMade : {D : Type 0} → (D → Option (List Volume)) → (D → �
 EndsMade shows failures drives groups made had has end =
     EndsAgain shows failures drives groups made.gathered made.outcomes.items had has end
 
--- the number of a stop if making a file once more failed
-abbrev pub again_number : AgainFault → ℕ
-again_number again.Memory = 1
-again_number again.Failed = 70
-again_number again.Changed = 70
+-- a delivery of files that are made from a source stops by 72 only if they can't be given
+abbrev pub ChangedBy : {D : Type 0} → (D → Option (List Volume)) → (D → ℕ) → List D → List Group → RereadSource → List (FileKey × join.Outcome)
+    → RestoreEnd → Type 0
+ChangedBy shows failures drives groups source outcomes end =
+    StopsOnlyIf 72 (CanGive shows failures drives groups (Some source.gathered.now) (map restored outcomes) → ⊥) end
+
+-- the same for the files of a restore
+abbrev pub ChangedMade : {D : Type 0} → (D → Option (List Volume)) → (D → ℕ) → List D → List Group → MadeFiles → RestoreEnd → Type 0
+ChangedMade shows failures drives groups made end =
+    StopsOnlyIf 72 (CanGive shows failures drives groups made.gathered (map restored made.outcomes.items) → ⊥) end
 
 -- the delivery of all files succeeded, or the stop is the one that they decide
 abbrev pub DeliversAll : Result (Unit {0}) Stop → List Restored → Type 0
@@ -143,6 +141,10 @@ DeliversAll (Err stop) rs = IsRefusal (stop_cause stop) (delivery rs)
 abbrev pub CanReread : {D : Type 0} → (D → Option (List Volume)) → (D → ℕ) → List D → List Group → Hits → Type 0
 CanReread shows failures drives groups hits = (found : List Hit) → hits_of found ≡ hits → AreListed found
     → GivesHits (record { drives = driven_by shows failures drives; groups = groups }) found
+
+-- the files are not made for this reason only if the hits of a joiner can't be read again as they were found
+abbrev pub ChangedJoined : {D : Type 0} → (D → Option (List Volume)) → (D → ℕ) → List D → List Group → Joining → ExtractFault → Type 0
+ChangedJoined shows failures drives groups joining why = why ≡ Changed → CanReread shows failures drives groups joining.hits → ⊥
 
 -- if the hits are read again as they were found, the files are those of what a joiner took
 abbrev pub MadeOver : Type 0 → Joining → MadeFiles → Type 0

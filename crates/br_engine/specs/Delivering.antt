@@ -7,11 +7,12 @@ use Rattle.br_model.specs.File.{Item}
 use Rattle.br_model.specs.Restored.{Restored}
 use Rattle.br_model.specs.Manifest.{manifest, totals_of}
 use Rattle.br_model.specs.Delivery.{Stop, delivery, item_of}
-use Rattle.br_sink.specs.Delivery.{IsStopIn, stop_cause}
+use Rattle.br_sink.specs.Delivery.{stop_cause}
 use Rattle.br_sink.specs.Sink.{HasMore}
 use Rattle.br_engine.specs.Fault.{cause}
 use Rattle.br_engine.specs.Outputs.{EndTells, InSink}
 use Rattle.br_engine.specs.Extracting.{Said, WritesNothing}
+use Rattle.br_engine.specs.Stopping.{IsRestoreStop}
 use Rattle.br_engine.specs.declared.restore_end.RestoreEnd.{RestoreEnd}
 use Rattle.br_engine.specs.declared.restore_end.RestoreEnd.TheVariants.{AllFiles, SomeFaults, Stopped}
 use Rattle.br_engine.specs.declared.fault.ExtractFault.{ExtractFault}
@@ -36,7 +37,7 @@ IsDelivered (Some had) None rs = ⊥
 -- conflict.
 abbrev pub IsStopped : InSink → InSink → Stop → List Restored → Type 0
 IsStopped (Some had) (Some has) stop rs =
-    IsRefusal (stop_cause stop) (delivery rs) × IsStopIn (items_of rs) stop × HasMore (take stop.done (items_of rs)) had has
+    IsRefusal (stop_cause stop) (delivery rs) × IsRestoreStop (items_of rs) stop × HasMore (take stop.done (items_of rs)) had has
 IsStopped None has stop rs = ⊥
 IsStopped (Some had) None stop rs = ⊥
 

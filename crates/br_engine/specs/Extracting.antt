@@ -11,7 +11,7 @@ use Rattle.br_join.specs.Outcome.{restored}
 use Rattle.br_engine.specs.Fault.{Refusal, OfLine, OfPiece, cause}
 use Rattle.br_engine.specs.Restoring.{Told, AllStand, Outcomes, restored_files}
 use Rattle.br_engine.specs.declared.fault.ExtractFault.{ExtractFault}
-use Rattle.br_engine.specs.declared.fault.ExtractFault.TheVariants.{Memory, Bootstrap, Piece, Io, NoEnd}
+use Rattle.br_engine.specs.declared.fault.ExtractFault.TheVariants.{Memory, Bootstrap, Piece, Changed, Io, NoEnd}
 
 -- the files that the bootstrap in a text gives over volumes; or its first refused line, or the
 -- first fault of a piece
@@ -41,6 +41,11 @@ abbrev pub OverText : Option (List ℕ) → Told → Told → Said → Type 0
 OverText (Some text) earlier later holds = (volumes : List Volume) → AllStandForText earlier later text volumes → holds (extracted text volumes)
 OverText None earlier later holds = ⊤
 
+-- if the text is known, there are no volumes that each of the drives may be taken to show
+abbrev pub NoneStandForText : Option (List ℕ) → Told → Told → Type 0
+NoneStandForText (Some text) earlier later = (volumes : List Volume) → AllStandForText earlier later text volumes → ⊥
+NoneStandForText None earlier later = ⊤
+
 -- ---- what a refusal leaves
 
 -- nothing was written, unless reading or writing failed
@@ -48,6 +53,7 @@ abbrev pub WritesNothing : Option (List ℕ) → Option (List ℕ) → ExtractFa
 WritesNothing before after Memory = Keeps before after
 WritesNothing before after (Bootstrap fault) = Keeps before after
 WritesNothing before after (Piece fault) = Keeps before after
+WritesNothing before after Changed = Keeps before after
 WritesNothing before after (Io fault) = ⊤
 WritesNothing before after (NoEnd turns) = Keeps before after
 

@@ -14,7 +14,7 @@ use Rattle.br_pool.specs.Fault as pool
 use Rattle.br_pool.specs.declared.fault.PoolFault.{PoolFault}
 use Rattle.br_pool.specs.declared.fault.PoolFault.TheVariants as of_pool
 use Rattle.br_engine.specs.declared.fault.ExtractFault.{ExtractFault}
-use Rattle.br_engine.specs.declared.fault.ExtractFault.TheVariants.{Memory, Bootstrap, Piece, Io, NoEnd}
+use Rattle.br_engine.specs.declared.fault.ExtractFault.TheVariants.{Memory, Bootstrap, Piece, Changed, Io, NoEnd}
 
 -- the refused line of a bootstrap, or the fault of a piece
 pub data Refusal : Type 0 where
@@ -22,11 +22,12 @@ pub data Refusal : Type 0 where
   OfPiece : model.PieceFault → Refusal
 
 -- The refusal that the bootstrap's text and the volumes decide. There is none if memory ran out, no
--- drive is left, reading or writing failed, or the input has no end.
+-- drive is left, a volume was changed, reading or writing failed, or the input has no end.
 abbrev pub cause : ExtractFault → Option Refusal
 cause Memory = None
 cause (Bootstrap fault) = option_map OfLine (bootstrap.cause fault)
 cause (Piece fault) = option_map OfPiece (pool.cause fault)
+cause Changed = None
 cause (Io fault) = None
 cause (NoEnd turns) = None
 
@@ -36,6 +37,7 @@ abbrev pub fault_number : ExtractFault → Option ℕ
 fault_number Memory = Some 1
 fault_number (Bootstrap fault) = Some (bootstrap.fault_number fault)
 fault_number (Piece fault) = Some (pool.fault_number fault)
+fault_number Changed = Some 72
 fault_number (Io fault) = None
 fault_number (NoEnd turns) = None
 
@@ -61,6 +63,7 @@ abbrev pub fault_text : ExtractFault → List ℕ
 fault_text Memory = refused_line 1
 fault_text (Bootstrap fault) = bootstrap_text (bootstrap.cause fault)
 fault_text (Piece fault) = pool_text fault
+fault_text Changed = refused_line 72
 fault_text (Io fault) = []
 fault_text (NoEnd turns) = []
 
@@ -69,6 +72,7 @@ abbrev pub IsFree : ExtractFault → Type 0
 IsFree Memory = ⊤
 IsFree (Bootstrap fault) = ⊥
 IsFree (Piece fault) = ⊥
+IsFree Changed = ⊥
 IsFree (Io fault) = ⊤
 IsFree (NoEnd turns) = ⊥
 
@@ -77,14 +81,15 @@ IsFree (NoEnd turns) = ⊥
 abbrev pub OfAgain : AgainFault → ExtractFault → Type 0
 OfAgain again.Memory fault = fault ≡ Memory
 OfAgain again.Failed fault = fault ≡ Piece of_pool.NoDriveLeft
-OfAgain again.Changed fault = IsFree fault
+OfAgain again.Changed fault = fault ≡ Changed
 
 -- memory ran out, a volume was changed, or no drive is left that reads again
 abbrev pub IsUnmade : ExtractFault → Type 0
 IsUnmade Memory = ⊤
 IsUnmade (Bootstrap fault) = ⊥
 IsUnmade (Piece fault) = fault ≡ of_pool.NoDriveLeft
-IsUnmade (Io fault) = ⊤
+IsUnmade Changed = ⊤
+IsUnmade (Io fault) = ⊥
 IsUnmade (NoEnd turns) = ⊥
 
 -- the text of a bootstrap was not read to its end: memory ran out, reading failed, or the input has
@@ -93,6 +98,7 @@ abbrev pub IsUnread : ExtractFault → Type 0
 IsUnread Memory = ⊤
 IsUnread (Bootstrap fault) = ⊥
 IsUnread (Piece fault) = ⊥
+IsUnread Changed = ⊥
 IsUnread (Io fault) = ⊤
 IsUnread (NoEnd turns) = ⊤
 
@@ -101,6 +107,7 @@ abbrev pub EndlessAfterAll : ExtractFault → Type 0
 EndlessAfterAll Memory = ⊤
 EndlessAfterAll (Bootstrap fault) = ⊤
 EndlessAfterAll (Piece fault) = ⊤
+EndlessAfterAll Changed = ⊤
 EndlessAfterAll (Io fault) = ⊤
 EndlessAfterAll (NoEnd turns) = turns ≡ 2 ^ 40
 
@@ -109,6 +116,7 @@ abbrev pub IsNoLine : ExtractFault → Type 0
 IsNoLine Memory = ⊤
 IsNoLine (Bootstrap fault) = ⊥
 IsNoLine (Piece fault) = ⊤
+IsNoLine Changed = ⊤
 IsNoLine (Io fault) = ⊤
 IsNoLine (NoEnd turns) = ⊥
 

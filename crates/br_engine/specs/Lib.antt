@@ -1,6 +1,7 @@
 pub mod Restoring
 pub mod Fault
 pub mod Outputs
+pub mod Stopping
 pub mod BootstrapText
 pub mod Extracting
 pub mod Delivering

@@ -1,6 +1,6 @@
 -- The outputs of a restore, and its result.
 use Rattle.std.specs.Prelude.{◌≡◌, ℕ, ◌<◌, ◌≤◌, Bool, true, false, List, [], is_ok, Option, Some, None, ⊤, if◌then◌else◌}
-use Rattle.std.specs.List.{list_all}
+use Rattle.std.specs.List.{AllZip, list_all}
 use Rattle.br_model.specs.Text.{refused_line}
 use Rattle.br_model.specs.File.{Item}
 use Rattle.br_model.specs.Restored.{Restored}
@@ -49,3 +49,13 @@ abbrev pub StopsByFailure : Option ℕ → Option ℕ → RestoreEnd → Type 0
 StopsByFailure earlier later AllFiles = ⊤
 StopsByFailure earlier later SomeFaults = ⊤
 StopsByFailure earlier later (Stopped stop) = stop.number ≡ 80 → SinkFailed earlier later
+
+-- the delivery stopped by this number only if this holds
+abbrev pub StopsOnlyIf : ℕ → Type 0 → RestoreEnd → Type 0
+StopsOnlyIf number claim AllFiles = ⊤
+StopsOnlyIf number claim SomeFaults = ⊤
+StopsOnlyIf number claim (Stopped stop) = stop.number ≡ number → claim
+
+-- each of the drives failed meanwhile
+abbrev pub AllFail : {D : Type 0} → (D → ℕ) → List D → List D → Type 0
+AllFail failures before after = AllZip (λ old new. failures old < failures new) before after

@@ -7,12 +7,13 @@ use Rattle.br_volume.specs.declared.drive.Drive as drive
 use Rattle.br_sink.specs.declared.sink.Sink as sink
 use Rattle.br_sink.specs.LeftOutLines.{left_lines}
 use Rattle.br_engine.specs.Delivering.{IsPut, IsRefused, IsWritten}
-use Rattle.br_engine.specs.Extracting.{OverText, OverVolumes, Said}
-use Rattle.br_engine.specs.Outputs.{EndTells, InSink, SinkCounts, StopsByFailure, end_text}
-use Rattle.br_engine.specs.Restoring.{Told}
+use Rattle.br_engine.specs.Extracting.{NoneStandForText, OverText, OverVolumes, Said}
+use Rattle.br_engine.specs.Outputs.{AllFail, EndTells, InSink, SinkCounts, StopsByFailure, StopsOnlyIf, end_text}
+use Rattle.br_engine.specs.Restoring.{NoneStand, Told}
 use Rattle.br_engine.specs.WantedOutcomes.{delivered, left_out, plain, reported_for}
 use Rattle.br_engine.specs.declared.extracted.Extracted.{Extracted}
 use Rattle.br_engine.specs.declared.fault.ExtractFault.{ExtractFault}
+use Rattle.br_engine.specs.declared.fault.ExtractFault.TheVariants.{Changed}
 use Rattle.br_engine.specs.declared.restore.Restore.{Restore}
 use Rattle.br_engine.specs.declared.restore_order.RestoreOrder.{RestoreOrder}
 use Rattle.br_types.specs.declared.wanted.Wanted.{Wanted}
@@ -52,6 +53,11 @@ abbrev pub StopIsCounted : {D S : Type 0} → (S → ℕ) → Restore D S → Re
 StopIsCounted failures before after result =
     IfOk result (λ done. StopsByFailure (option_map failures before.sink) (option_map failures after.sink) done.end)
 
+-- a stop by 70 comes only if each drive failed
+abbrev pub StopIsLost : {D S : Type 0} → (D → ℕ) → Restore D S → Restore D S → Result Extracted ExtractFault → Type 0
+StopIsLost failures before after result =
+    IfOk result (λ done. StopsOnlyIf 70 (AllFail failures before.drives.items after.drives.items) done.end)
+
 -- ---- the result
 
 -- the lines of what is missing, of the files that are left out (for their paths, or since the sink
@@ -83,3 +89,16 @@ abbrev pub RestoresText : Option (List ℕ) → Change → Result Extracted Extr
 RestoresText known seen result =
     Extracts plain (λ holds. OverText known seen.old.told seen.new.told holds) (λ rs lines. lines ≡ []) seen.old.written seen.new.written
     seen.old.has seen.new.has result
+
+-- the restore is refused, or its delivery stops, by 72 only if this holds
+abbrev pub OnlyIfChanged : Type 0 → Result Extracted ExtractFault → Type 0
+OnlyIfChanged claim (Ok done) = StopsOnlyIf 72 claim done.end
+OnlyIfChanged claim (Err why) = why ≡ Changed → claim
+
+-- that happens only if there are no volumes that each of the drives may be taken to show
+abbrev pub ChangesOnly : RestoreOrder → Change → Result Extracted ExtractFault → Type 0
+ChangesOnly order seen result = OnlyIfChanged (NoneStand seen.old.told seen.new.told order.asked.bootstrap.now) result
+
+-- the same for the bootstrap in a text, if the text is known
+abbrev pub ChangesOnlyText : Option (List ℕ) → Change → Result Extracted ExtractFault → Type 0
+ChangesOnlyText known seen result = OnlyIfChanged (NoneStandForText known seen.old.told seen.new.told) result

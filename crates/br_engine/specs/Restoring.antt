@@ -25,6 +25,14 @@ Told = List (Option (List Volume))
 abbrev pub AllStand : Told → Told → List Piece → List Volume → Type 0
 AllStand earlier later pieces volumes = AllZip (StandsTold pieces volumes) earlier later
 
+-- there are no volumes that each of the drives may be taken to show
+abbrev pub NoneStand : Told → Told → List Group → Type 0
+NoneStand earlier later groups = (volumes : List Volume) → AllStand earlier later (pieces_of groups) volumes → ⊥
+
+-- the same of drives before and after
+abbrev pub NoneStandBy : {D : Type 0} → (D → Option (List Volume)) → List D → List D → List Group → Type 0
+NoneStandBy shows before after groups = NoneStand (map shows before) (map shows after) groups
+
 -- the set of the hits of some pieces, or the first fault
 abbrev pub set_of_each : List Volume → List Piece → Result Hits model.PieceFault
 set_of_each volumes pieces = do

@@ -4,14 +4,17 @@ ghost use Rattle.br_model.specs.Answer.{IsRefusal};
 ghost use Rattle.br_model.specs.Delivery.{delivery};
 ghost use Rattle.br_join.specs.Outcome.{restored};
 ghost use Rattle.br_data.specs.ManyDrives.{GoOn};
-ghost use Rattle.br_sink.specs.Delivery.{AreApart, IsStopIn, items_in, stop_cause};
-ghost use Rattle.br_sink.specs.Fault.{cause_number};
-ghost use Rattle.br_engine.specs.DeliveredAgain.{DeliversAll, IsStopAgain, IsWindowOf, PutsAgain, PutsItemAgain, PutsTwoAgain, again_number};
+ghost use Rattle.br_reread_files.specs.FileParts.{GivesItem};
+ghost use Rattle.br_reread_files.specs.TwoFiles.{GivesKeyed};
+ghost use Rattle.br_sink.specs.Delivery.{AreApart, items_in, stop_cause};
+ghost use Rattle.br_engine.specs.DeliveredAgain.{CanMake, DeliversAll, IsWindowOf, PutsAgain, PutsItemAgain, PutsTwoAgain};
+ghost use Rattle.br_engine.specs.Stopping.{IsChangedOnly, IsLostOnly, IsRestoreStop, IsStopAgain};
 
-use br_data::{AgainFault, OverMany, standing_stays};
+use crate::restore_stop::{RestoreCause, RestoreStop, as_in_memory, cause_of_again, cause_of_parts};
+use br_data::{OverMany, standing_stays};
 use br_join::Outcome;
 use br_reread_files::{Gathered, KeyedItem, TwoDone};
-use br_sink::{Sink, SinkStop, StopCause, stand_apart, totals};
+use br_sink::{Sink, StopCause, stand_apart, totals};
 use br_types::FileKey;
 use br_volume::Drive;
 use std::alloc::Global;
@@ -110,16 +113,6 @@ fn window_of(window: u64, outcomes: &[(FileKey, Outcome)]) -> PutStep<'_>
     }
 }
 
-/// Returns why a delivery stops if making a file once more failed.
-fn stop_of(fault: AgainFault) -> StopCause
-    ensures { cause_number result ≡ again_number fault }
-{
-    match fault {
-        AgainFault::Memory => StopCause::Memory,
-        AgainFault::Failed | AgainFault::Changed => StopCause::NoDriveLeft,
-    }
-}
-
 /// Makes the files among the outcomes once more in memory, and puts them into a sink.
 fn put_together<D: Drive, S: Sink>(
     rt: &(impl Threads + Sync),
@@ -127,16 +120,18 @@ fn put_together<D: Drive, S: Sink>(
     many: &mut OverMany<'_, D>,
     window: &[(FileKey, Outcome)],
     sink: &mut S,
-) -> Result<(), SinkStop>
+) -> Result<(), RestoreStop>
     ensures put { PutsAgain many.old source.now.gathered.now window.now (S.has sink.old) (S.has sink.new) result }
     ensures stopped { IfErr result (IsStopAgain (length (items_in window.now))) }
+    ensures changed { IfErr result (IsChangedOnly (CanMake many.old source.now.gathered.now (map restored window.now))) }
+    ensures lost { IfErr result (IsLostOnly many.old many.new) }
     ensures on { GoOn many.old many.new }
     ensures counted { S.failures sink.old ≤ S.failures sink.new }
     ensures failed { IfErr result (λ stop. stop.number ≡ 80 → S.failures sink.old < S.failures sink.new) }
 {
     match source.gathered.again(source.alloc, many, window) {
-        Ok(made) => sink.put_all(rt, &made),
-        Err(fault) => Err(SinkStop::new(stop_of(fault), 0)),
+        Ok(made) => as_in_memory(sink.put_all(rt, &made)),
+        Err(fault) => Err(RestoreStop::new(cause_of_again(fault), 0)),
     }
 }
 
@@ -147,9 +142,11 @@ fn put_alone<D: Drive, S: Sink>(
     many: &mut OverMany<'_, D>,
     alone: &KeyedItem<'_>,
     sink: &mut S,
-) -> Result<(), SinkStop>
+) -> Result<(), RestoreStop>
     ensures put { PutsItemAgain many.old source.now.gathered.now alone.now.key alone.now.item.now (S.has sink.old) (S.has sink.new) result }
     ensures stopped { IfErr result (IsStopAgain 1) }
+    ensures changed { IfErr result (IsChangedOnly (GivesItem many.old source.now.gathered.now.hits alone.now.key alone.now.item.now)) }
+    ensures lost { IfErr result (IsLostOnly many.old many.new) }
     ensures on { GoOn many.old many.new }
     ensures counted { S.failures sink.old ≤ S.failures sink.new }
     ensures failed { IfErr result (λ stop. stop.number ≡ 80 → S.failures sink.old < S.failures sink.new) }
@@ -159,7 +156,7 @@ fn put_alone<D: Drive, S: Sink>(
         .put_by_parts(rt, source.alloc, many, alone.key, alone.item, sink);
     match put {
         Ok(()) => Ok(()),
-        Err(fault) => Err(SinkStop::new(fault.cause(), 0)),
+        Err(fault) => Err(RestoreStop::new(cause_of_parts(fault), 0)),
     }
 }
 
@@ -172,9 +169,11 @@ fn put_two_alone<D: Drive, S: Sink>(
     one: &KeyedItem<'_>,
     other: &KeyedItem<'_>,
     sink: &mut S,
-) -> Result<(), SinkStop>
+) -> Result<(), RestoreStop>
     ensures put { PutsTwoAgain many.old source.now.gathered.now one.now other.now (S.has sink.old) (S.has sink.new) result }
     ensures stopped { IfErr result (IsStopAgain 2) }
+    ensures changed { IfErr result (IsChangedOnly (GivesKeyed many.old source.now.gathered.now one.now other.now)) }
+    ensures lost { IfErr result (IsLostOnly many.old many.new) }
     ensures on { GoOn many.old many.new }
     ensures counted { S.failures sink.old ≤ S.failures sink.new }
     ensures failed { IfErr result (λ stop. stop.number ≡ 80 → S.failures sink.old < S.failures sink.new) }
@@ -184,8 +183,8 @@ fn put_two_alone<D: Drive, S: Sink>(
         .put_two_by_parts(rt, source.alloc, many, one, other, sink);
     match put {
         TwoDone::Both => Ok(()),
-        TwoDone::One(fault) => Err(SinkStop::new(fault.cause(), 1)),
-        TwoDone::Neither(fault) => Err(SinkStop::new(fault.cause(), 0)),
+        TwoDone::One(fault) => Err(RestoreStop::new(cause_of_parts(fault), 1)),
+        TwoDone::Neither(fault) => Err(RestoreStop::new(cause_of_parts(fault), 0)),
     }
 }
 
@@ -197,9 +196,11 @@ fn put_window<D: Drive, S: Sink>(
     many: &mut OverMany<'_, D>,
     window: &[(FileKey, Outcome)],
     sink: &mut S,
-) -> Result<(), SinkStop>
+) -> Result<(), RestoreStop>
     ensures put { PutsAgain many.old source.now.gathered.now window.now (S.has sink.old) (S.has sink.new) result }
     ensures stopped { IfErr result (IsStopAgain (length (items_in window.now))) }
+    ensures changed { IfErr result (IsChangedOnly (CanMake many.old source.now.gathered.now (map restored window.now))) }
+    ensures lost { IfErr result (IsLostOnly many.old many.new) }
     ensures on { GoOn many.old many.new }
     ensures counted { S.failures sink.old ≤ S.failures sink.new }
     ensures failed { IfErr result (λ stop. stop.number ≡ 80 → S.failures sink.old < S.failures sink.new) }
@@ -219,9 +220,11 @@ fn put_windows<D: Drive, S: Sink>(
     many: &mut OverMany<'_, D>,
     outcomes: &[(FileKey, Outcome)],
     sink: &mut S,
-) -> Result<(), SinkStop>
+) -> Result<(), RestoreStop>
     ensures put { PutsAgain many.old source.now.gathered.now outcomes.now (S.has sink.old) (S.has sink.new) result }
     ensures stopped { IfErr result (IsStopAgain (length (items_in outcomes.now))) }
+    ensures changed { IfErr result (IsChangedOnly (CanMake many.old source.now.gathered.now (map restored outcomes.now))) }
+    ensures lost { IfErr result (IsLostOnly many.old many.new) }
     ensures on { GoOn many.old many.new }
     ensures counted { S.failures sink.old ≤ S.failures sink.new }
     ensures failed { IfErr result (λ stop. stop.number ≡ 80 → S.failures sink.old < S.failures sink.new) }
@@ -233,7 +236,7 @@ fn put_windows<D: Drive, S: Sink>(
         let rest = &outcomes[place..];
         let (window, _) = rest.split_at(window_len(source.window, rest));
         if let Err(stop) = put_window(rt, source, many, window, sink) {
-            return Err(SinkStop::new(stop.cause(), done + stop.done()));
+            return Err(RestoreStop::new(stop.cause(), done + stop.done()));
         }
         done += totals(window).files;
         place += window.len();
@@ -245,28 +248,33 @@ fn put_windows<D: Drive, S: Sink>(
 ///
 /// # Errors
 ///
-/// Those of `deliver`, and `NoDriveLeft` (70) if no drive is left that gives the data of a file as they
-/// were found.
+/// Those of `deliver`, `NoDriveLeft` (70) if each drive failed, and `Changed` (72) if the data of a file are no
+/// longer those that were found.
 pub(crate) fn deliver_again<D: Drive, S: Sink>(
     rt: &(impl Threads + Sync),
     source: &RereadSource<'_>,
     many: &mut OverMany<'_, D>,
     outcomes: &[(FileKey, Outcome)],
     sink: &mut S,
-) -> Result<(), SinkStop>
+) -> Result<(), RestoreStop>
     ensures put { PutsAgain many.old source.now.gathered.now outcomes.now (S.has sink.old) (S.has sink.new) result }
     ensures all { DeliversAll result (map restored outcomes.now) }
-    ensures stopped { IfErr result (IsStopIn (items_in outcomes.now)) }
+    ensures stopped { IfErr result (IsRestoreStop (items_in outcomes.now)) }
+    ensures changed { IfErr result (IsChangedOnly (CanMake many.old source.now.gathered.now (map restored outcomes.now))) }
+    ensures lost { IfErr result (IsLostOnly many.old many.new) }
     ensures on { GoOn many.old many.new }
     ensures counted { S.failures sink.old ≤ S.failures sink.new }
     ensures failed { IfErr result (λ stop. stop.number ≡ 80 → S.failures sink.old < S.failures sink.new) }
 {
     let Ok((place, files)) = stand_apart(source.alloc, outcomes) else {
-        return Err(SinkStop::new(StopCause::Memory, 0));
+        return Err(RestoreStop::new(RestoreCause::Sink(StopCause::Memory), 0));
     };
     put_windows(rt, source, many, &outcomes[..place], sink)?;
     if place < outcomes.len() {
-        return Err(SinkStop::new(StopCause::Conflict, files));
+        return Err(RestoreStop::new(
+            RestoreCause::Sink(StopCause::Conflict),
+            files,
+        ));
     }
     Ok(())
 }

@@ -1,10 +1,11 @@
 ghost use Rattle.std.specs.Prelude.{◌≡◌, map, option_map, Some};
 ghost use Rattle.br_join.specs.Outcome.{restored};
-ghost use Rattle.br_engine.specs.Outputs.{SinkCounts, StopsByFailure, end_of_files};
+ghost use Rattle.br_engine.specs.Outputs.{SinkCounts, StopsByFailure, StopsOnlyIf, end_of_files};
 ghost use Rattle.br_engine.specs.Delivering.{EndsWith};
 
 use crate::extracting::all_files;
 use crate::restore_end::RestoreEnd;
+use crate::restore_stop::RestoreStop;
 use br_join::Outcome;
 use br_sink::{Sink, deliver};
 use br_types::FileKey;
@@ -32,10 +33,12 @@ fn deliver_to<S: Sink>(
     ensures ends { EndsWith (Some (S.has sink.old)) (Some (S.has sink.new)) (map restored outcomes.now) result }
     ensures counted { SinkCounts (Some (S.failures sink.old)) (Some (S.failures sink.new)) }
     ensures failed { StopsByFailure (Some (S.failures sink.old)) (Some (S.failures sink.new)) result }
+    ensures lost { StopsOnlyIf 70 ⊥ result }
+    ensures changed { StopsOnlyIf 72 ⊥ result }
 {
     match deliver(rt, alloc, outcomes, sink) {
         Ok(_) => end_of(outcomes),
-        Err(stop) => RestoreEnd::Stopped(stop),
+        Err(stop) => RestoreEnd::Stopped(RestoreStop::of_sink(stop)),
     }
 }
 
@@ -50,6 +53,8 @@ pub(crate) fn deliver_files<S: Sink>(
     ensures ends { EndsWith (option_map S.has sink.old) (option_map S.has sink.new) (map restored outcomes.now) result }
     ensures counted { SinkCounts (option_map S.failures sink.old) (option_map S.failures sink.new) }
     ensures failed { StopsByFailure (option_map S.failures sink.old) (option_map S.failures sink.new) result }
+    ensures lost { StopsOnlyIf 70 ⊥ result }
+    ensures changed { StopsOnlyIf 72 ⊥ result }
 {
     match sink {
         None => end_of(outcomes),

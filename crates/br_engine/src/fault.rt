@@ -27,6 +27,9 @@ pub enum ExtractFault {
     /// A volume could not be read, or no drive is left.
     #[error("{0}")]
     Piece(PoolFault),
+    /// Data that are read again are no longer those that were found.
+    #[error("a volume was changed while it was read")]
+    Changed,
     /// Reading the bootstrap or writing the manifest failed.
     #[error("{0}")]
     Io(io::Error),
@@ -67,7 +70,6 @@ impl From<io::Error> for ExtractFault {
     }
 }
 
-/// A volume that was changed is a fault of reading, whose kind is `InvalidData`.
 impl From<AgainFault> for ExtractFault {
     ghost from_gives = { λ fault e. OfAgain fault e };
 
@@ -75,10 +77,7 @@ impl From<AgainFault> for ExtractFault {
         match fault {
             AgainFault::Memory => ExtractFault::Memory,
             AgainFault::Failed => ExtractFault::Piece(PoolFault::NoDriveLeft),
-            AgainFault::Changed => ExtractFault::Io(io::Error::new(
-                io::ErrorKind::InvalidData,
-                "a volume was changed while it was read",
-            )),
+            AgainFault::Changed => ExtractFault::Changed,
         }
     }
 }
@@ -167,8 +166,8 @@ pub fn push_pool_line(text: &mut Vec<u8>, fault: &PoolFault) -> Result<(), Alloc
 
 impl ExtractFault {
     /// Returns the number of the refusal: 1 out of memory, 10 to 12 and 14 a volume, 30 to 34 a
-    /// line of the bootstrap, 70 no drive left. A fault of reading or writing is no refusal, and
-    /// neither is an input without an end.
+    /// line of the bootstrap, 70 no drive left, 72 a volume that was changed. A fault of reading or
+    /// writing is no refusal, and neither is an input without an end.
     pub fn number(&self) -> Option<u32>
         ensures { result ≡ fault_number self.now }
     {
@@ -176,13 +175,14 @@ impl ExtractFault {
             ExtractFault::Memory => Some(1),
             ExtractFault::Bootstrap(fault) => Some(fault.number()),
             ExtractFault::Piece(fault) => Some(fault.number()),
+            ExtractFault::Changed => Some(72),
             ExtractFault::Io(_) | ExtractFault::NoEnd(_) => None,
         }
     }
 
     /// Appends the line of the refusal: `refused N line K` for a line of the bootstrap, counted from 1;
     /// `refused N VOLUME ADDRESS` for 10 to 14, with the volume escaped; `refused 1` if memory ran out,
-    /// and `refused 70` if no drive is left.
+    /// `refused 70` if no drive is left, and `refused 72` if a volume was changed.
     /// Appends nothing for a fault of reading or writing, or an input that has no end.
     ///
     /// If memory runs out here, a part of the line may have been appended.
@@ -193,6 +193,7 @@ impl ExtractFault {
             ExtractFault::Memory => push_refused_line(text, 1),
             ExtractFault::Bootstrap(fault) => push_bootstrap_line(text, *fault),
             ExtractFault::Piece(fault) => push_pool_line(text, fault),
+            ExtractFault::Changed => push_refused_line(text, 72),
             ExtractFault::Io(_) | ExtractFault::NoEnd(_) => Ok(()),
         }
     }

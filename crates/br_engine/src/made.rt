@@ -1,9 +1,12 @@
 //! The files of a restore, made within a budget of memory.
 ghost use Rattle.std.specs.Prelude.{◌≡◌, option_map, Some, IfErr, IfOk};
 ghost use Rattle.br_pool.specs.Pool.{AreDrives, OnlyIfAllFail, StayInPlace};
-ghost use Rattle.br_engine.specs.DeliveredAgain.{CanReread, EndsBy, EndsMade, GivesAgain, GivesIfReread, MadeOver, MakesOver};
+ghost use Rattle.br_engine.specs.DeliveredAgain.{CanReread, ChangedBy, ChangedJoined, ChangedMade, EndsBy, EndsMade};
+ghost use Rattle.br_engine.specs.DeliveredAgain.{GivesAgain, GivesIfReread, MadeOver, MakesOver};
 ghost use Rattle.br_engine.specs.Fault.{IsNoDriveLeft, IsNoLine, IsUnmade};
-ghost use Rattle.br_engine.specs.Outputs.{SinkCounts, StopsByFailure};
+ghost use Rattle.br_engine.specs.Outputs.{AllFail, SinkCounts, StopsByFailure, StopsOnlyIf};
+ghost use Rattle.br_engine.specs.Restoring.{NoneStandBy};
+ghost use Rattle.br_engine.specs.declared.fault.ExtractFault.TheVariants.{Changed};
 
 use crate::budget::Budget;
 use crate::delivered_again::{RereadSource, deliver_again, len_of};
@@ -67,6 +70,7 @@ fn made_of<D: Drive + Send>(
     ensures places { StayInPlace D.shows D.failures drives.old.items drives.new.items }
     ensures failed { OnlyIfAllFail D.failures drives.old.items drives.new.items IsNoDriveLeft result }
     ensures free { IfErr result IsUnmade }
+    ensures changed { IfErr result (ChangedJoined D.shows D.failures drives.old.items groups.now joiner) }
 {
     standing_stays();
     let alloc = budget.alloc;
@@ -92,7 +96,7 @@ fn made_of<D: Drive + Send>(
 ///
 /// - `Piece` and `Memory` as `restore`; `NoDriveLeft` also if each drive failed while data were read
 ///   again.
-/// - `Io` if a volume was changed while it was read.
+/// - `Changed` if a volume was changed while it was read.
 pub(crate) fn restore_within<D: Drive + Send>(
     rt: &(impl Threads + Wait + Sync),
     budget: Budget,
@@ -105,6 +109,7 @@ pub(crate) fn restore_within<D: Drive + Send>(
     ensures again { IfOk result (λ made. GivesAgain D.shows D.failures drives.old.items drives.new.items bootstrap.now made) }
     ensures places { StayInPlace D.shows D.failures drives.old.items drives.new.items }
     ensures driven { IfErr result IsNoLine }
+    ensures changed { IfErr result (λ why. why ≡ Changed → NoneStandBy D.shows drives.old.items drives.new.items bootstrap.now) }
     ensures failed { OnlyIfAllFail D.failures drives.old.items drives.new.items IsNoDriveLeft result }
 {
     let mut joiner = join_all(rt, budget, bootstrap, names, drives)?;
@@ -135,6 +140,8 @@ fn deliver_by<D: Drive, S: Sink>(
     ensures places { StayInPlace D.shows D.failures drives.old.items drives.new.items }
     ensures counted { SinkCounts (Some (S.failures sink.old)) (Some (S.failures sink.new)) }
     ensures failed { StopsByFailure (Some (S.failures sink.old)) (Some (S.failures sink.new)) result }
+    ensures lost { StopsOnlyIf 70 (AllFail D.failures drives.old.items drives.new.items) result }
+    ensures changed { ChangedBy D.shows D.failures drives.old.items groups.now source.now outcomes.now result }
 {
     let taken = mem::replace(drives, Vec::new(source.alloc));
     let mut many = OverMany::new(source.alloc, taken, groups);
@@ -161,6 +168,8 @@ fn deliver_from<D: Drive, S: Sink>(
     ensures places { StayInPlace D.shows D.failures drives.old.items drives.new.items }
     ensures counted { SinkCounts (option_map S.failures sink.old) (option_map S.failures sink.new) }
     ensures failed { StopsByFailure (option_map S.failures sink.old) (option_map S.failures sink.new) result }
+    ensures lost { StopsOnlyIf 70 (AllFail D.failures drives.old.items drives.new.items) result }
+    ensures changed { ChangedBy D.shows D.failures drives.old.items groups.now source.now outcomes.now result }
 {
     match sink {
         None => end_of(outcomes),
@@ -183,6 +192,8 @@ pub(crate) fn deliver_made<D: Drive, S: Sink>(
     ensures places { StayInPlace D.shows D.failures drives.old.items drives.new.items }
     ensures counted { SinkCounts (option_map S.failures sink.old) (option_map S.failures sink.new) }
     ensures failed { StopsByFailure (option_map S.failures sink.old) (option_map S.failures sink.new) result }
+    ensures lost { StopsOnlyIf 70 (AllFail D.failures drives.old.items drives.new.items) result }
+    ensures changed { ChangedMade D.shows D.failures drives.old.items groups.now made.now result }
 {
     match &made.gathered {
         None => deliver_files(rt, alloc, &made.outcomes, sink),

@@ -5,7 +5,8 @@ ghost use Rattle.br_pool.specs.Pool.{AreDrives, OnlyIfAllFail, StayInPlace};
 ghost use Rattle.br_engine.specs.Extracting.{WritesNothing};
 ghost use Rattle.br_engine.specs.Fault.{EndlessAfterAll, IsNoDriveLeft, IsNoLine};
 ghost use Rattle.br_engine.specs.Outputs.{SinkCounts, StopsByFailure};
-ghost use Rattle.br_engine.specs.Restores.{CountsFailures, Restores, RestoresText, StopIsCounted, change};
+ghost use Rattle.br_engine.specs.Restores.{ChangesOnly, ChangesOnlyText, CountsFailures, Restores, RestoresText};
+ghost use Rattle.br_engine.specs.Restores.{StopIsCounted, StopIsLost, change};
 ghost use Rattle.br_engine.specs.WantedOutcomes.{left_by};
 
 use crate::bootstrap_text::read_text;
@@ -51,8 +52,8 @@ impl<D: Drive + Send, S: Sink> Restore<D, S> {
     ///
     /// - `Piece` for a volume that can't be read, or if no drive is left; then nothing is written.
     /// - `Memory` if memory ran out before the manifest; then nothing is written.
-    /// - `Io` if the writer failed, which may have taken a part of the manifest, or if a volume was
-    ///   changed while it was read.
+    /// - `Changed` if a volume was changed while it was read; then nothing is written.
+    /// - `Io` if the writer failed, which may have taken a part of the manifest.
     ///
     /// After an error nothing is put into the sink.
     pub fn run<W: Flush>(
@@ -63,11 +64,13 @@ impl<D: Drive + Send, S: Sink> Restore<D, S> {
     ) -> Result<Extracted, ExtractFault>
         requires drives { AreDrives self.old.drives.items }
         ensures restores { Restores order.entry (change D.Drive W.Write S.Sink (self.old, writer.old) (self.new, writer.new)) result }
+        ensures changed { ChangesOnly order.entry (change D.Drive W.Write S.Sink (self.old, writer.old) (self.new, writer.new)) result }
         ensures nothing { IfErr result (WritesNothing (W.contents writer.old) (W.contents writer.new)) }
         ensures flushed { IfOk result (λ _. W.is_flushed writer.new) }
         ensures driven { IfErr result IsNoLine }
         ensures places { StayInPlace D.shows D.failures self.old.drives.items self.new.drives.items }
         ensures failed { OnlyIfAllFail D.failures self.old.drives.items self.new.drives.items IsNoDriveLeft result }
+        ensures lost { StopIsLost D.failures self.old self.new result }
         ensures sink_counted { CountsFailures S.failures self.old self.new }
         ensures sink_failed { StopIsCounted S.failures self.old self.new result }
     {
@@ -114,11 +117,14 @@ pub fn run_extract<R: Read + Drop, D: Drive + Send, W: Flush, S: Sink>(
 ) -> Result<Extracted, ExtractFault>
     requires drives { AreDrives restore.old.drives.items }
     ensures restores { RestoresText (R.remaining reader.old) (change D.Drive W.Write S.Sink (restore.old, writer.old) (restore.new, writer.new)) result }
+    ensures changed { ChangesOnlyText (R.remaining reader.old)
+        (change D.Drive W.Write S.Sink (restore.old, writer.old) (restore.new, writer.new)) result }
     ensures nothing { IfErr result (WritesNothing (W.contents writer.old) (W.contents writer.new)) }
     ensures flushed { IfOk result (λ _. W.is_flushed writer.new) }
     ensures endless { IfErr result EndlessAfterAll }
     ensures places { StayInPlace D.shows D.failures restore.old.drives.items restore.new.drives.items }
     ensures failed { OnlyIfAllFail D.failures restore.old.drives.items restore.new.drives.items IsNoDriveLeft result }
+    ensures lost { StopIsLost D.failures restore.old restore.new result }
     ensures sink_counted { CountsFailures S.failures restore.old restore.new }
     ensures sink_failed { StopIsCounted S.failures restore.old restore.new result }
 {

@@ -2,7 +2,7 @@ ghost use Rattle.std.specs.Prelude.{◌≡◌, ◌++◌, OnOk};
 ghost use Rattle.br_engine.specs.Outputs.{end_text};
 
 use crate::fault::push_refused_line;
-use br_sink::SinkStop;
+use crate::restore_stop::RestoreStop;
 use std::alloc::AllocError;
 
 /// How a restore ended that wrote its manifest.
@@ -13,7 +13,7 @@ pub enum RestoreEnd {
     /// Some outcome is no file; all files were delivered if there is a sink.
     SomeFaults,
     /// The delivery stopped.
-    Stopped(SinkStop),
+    Stopped(RestoreStop),
 }
 
 impl RestoreEnd {

@@ -5,9 +5,10 @@ use Rattle.br_model.specs.File.{Item}
 use Rattle.br_model.specs.Name.{FileKey}
 use Rattle.br_join.specs.Outcome.{restored}
 use Rattle.br_join.specs.declared.item.Outcome.{Outcome}
-use Rattle.br_data.proofs.GoOnLaws.{go_itself, go_more}
+use Rattle.br_data.proofs.GoOnLaws.{failed_on, go_itself, go_more}
 use Rattle.br_sink.specs.Delivery.{items_in}
-use Rattle.br_engine.specs.DeliveredAgain.{CanMake, IsStopAgain, PutsLike}
+use Rattle.br_engine.specs.DeliveredAgain.{CanMake, PutsLike}
+use Rattle.br_engine.specs.Stopping.{IsStopAgain}
 use Rattle.br_engine.proofs.AgainLaws.{make_window}
 use Rattle.br_sink.proofs.PassingLaws.{few_items, rest_is}
 use Rattle.br_engine.proofs.StopLaws.{files_counted, items_around, items_window, none_put, puts_if, puts_more, puts_stop, taken_few, taken_window}
@@ -96,6 +97,23 @@ returns-in-Err-clause-stopped g c =
     let around = ap length (items_around place n os window is few) ∙ length-append xs (ys ++ zs) in
     let rest = length-append ys zs in
     subst (IsStopAgain (length (items_in os))) (sym new) (record { number = below.number; within = omega (arith, below.within, around, rest) })
+
+pub returns-in-Err-clause-changed : goal.returns-in-Err-clause-changed
+returns-in-Err-clause-changed g c = λ at can.
+    let os = c.args.outcomes.now in
+    let place = c.loop-place.place in
+    let l = c.loop-place.invariant in
+    let window = c.split_at.result.0.now in
+    let n = c.window_len.result in
+    let is : window ≡ take n (drop place os) = c.split_at.ensures.front ∙ ap (take n) (rest_is place os) in
+    let number = ap (λ (stop : Stop). stop.number) c.new.ensures ∙ c.cause.ensures in
+    c.in-Err.ensures.changed (sym number ∙ at)
+    (make_window c.standing_stays.ensures c.args.many.now c.loop-place.many c.args.source.now.gathered.now place n os window l.on is can)
+
+pub returns-in-Err-clause-lost : goal.returns-in-Err-clause-lost
+returns-in-Err-clause-lost g c = λ at.
+    let number = ap (λ (stop : Stop). stop.number) c.new.ensures ∙ c.cause.ensures in
+    failed_on c.args.many.now c.loop-place.many c.put_window.new.many c.loop-place.invariant.on (c.in-Err.ensures.lost (sym number ∙ at))
 
 pub returns-in-Err-clause-on : goal.returns-in-Err-clause-on
 returns-in-Err-clause-on g c = go_more c.args.many.now c.loop-place.many c.put_window.new.many c.loop-place.invariant.on c.put_window.ensures.on

@@ -4,7 +4,7 @@ use Rattle.br_join.specs.Outcome.{restored}
 use Rattle.br_pool.proofs.WorkedLaws.{all_kept}
 use Rattle.br_engine.specs.DeliveredAgain.{CanGive, EndsLike}
 use Rattle.br_engine.proofs.DeliverLaws.{ends_whole}
-use Rattle.br_engine.proofs.EndLaws.{ends_like_itself}
+use Rattle.br_engine.proofs.EndLaws.{ends_like_itself, never_stops}
 use Rattle.br_engine.proofs.made.deliver_from.Goals as goal
 
 pub returns-in-None-clause-ends : goal.returns-in-None-clause-ends
@@ -16,3 +16,9 @@ returns-in-None-clause-ends g c =
 
 pub returns-in-None-clause-places : goal.returns-in-None-clause-places
 returns-in-None-clause-places g c = all_kept g.D.Drive.shows g.D.Drive.failures c.args.drives.now.items
+
+pub returns-in-None-clause-lost : goal.returns-in-None-clause-lost
+returns-in-None-clause-lost g c = never_stops 70 _ (map restored c.args.outcomes.now) c.end_of.result c.end_of.ensures
+
+pub returns-in-None-clause-changed : goal.returns-in-None-clause-changed
+returns-in-None-clause-changed g c = never_stops 72 _ (map restored c.args.outcomes.now) c.end_of.result c.end_of.ensures

@@ -6,7 +6,7 @@ use Rattle.br_join.specs.declared.item.Outcome.{Outcome}
 use Rattle.br_pool.proofs.WorkedLaws.{all_kept}
 use Rattle.br_engine.specs.DeliveredAgain.{CanGive}
 use Rattle.br_engine.specs.Delivering.{EndsWith}
-use Rattle.br_engine.proofs.EndLaws.{ends_like_itself}
+use Rattle.br_engine.proofs.EndLaws.{ends_like_itself, stops_weaker}
 use Rattle.br_engine.proofs.made.deliver_made.Goals as goal
 
 pub returns-in-None-clause-ends : goal.returns-in-None-clause-ends
@@ -20,3 +20,9 @@ returns-in-None-clause-ends g c =
 
 pub returns-in-None-clause-places : goal.returns-in-None-clause-places
 returns-in-None-clause-places g c = all_kept g.D.Drive.shows g.D.Drive.failures c.args.drives.now.items
+
+pub returns-in-None-clause-lost : goal.returns-in-None-clause-lost
+returns-in-None-clause-lost g c = stops_weaker 70 ⊥ _ c.deliver_files.result (λ none. absurd none) c.deliver_files.ensures.lost
+
+pub returns-in-None-clause-changed : goal.returns-in-None-clause-changed
+returns-in-None-clause-changed g c = stops_weaker 72 ⊥ _ c.deliver_files.result (λ none. absurd none) c.deliver_files.ensures.changed

@@ -7,7 +7,7 @@ use Rattle.br_pool.proofs.WorkedLaws.{all_kept}
 use Rattle.br_data.specs.ManyDrives.{driven_by}
 use Rattle.br_reread_files.specs.Gathered.{Gathered}
 use Rattle.br_engine.specs.DeliveredAgain.{CanGive}
-use Rattle.br_engine.proofs.AgainLaws.{fail_driven, files_made, made_again, only_failed, stay_driven}
+use Rattle.br_engine.proofs.AgainLaws.{can_give, fail_driven, files_made, made_again, only_changed, only_failed, stay_driven}
 use Rattle.br_engine.proofs.made.made_of.Goals as goal
 
 pub returns-in_err-gathered-clause-places : goal.returns-in_err-gathered-clause-places
@@ -41,6 +41,21 @@ returns-in_err-outcomes-clause-failed g c =
     rw p.1
     (λ is. fail_driven shows failures m n c.args.drives.now.items c.replace-none.new.dest.items e f
     (c.in_err-outcomes.ensures.failed (ap Err (only_failed c.in_err-outcomes.field-0.0 p.0 p.2 is))))
+
+pub returns-in_err-outcomes-clause-changed : goal.returns-in_err-outcomes-clause-changed
+returns-in_err-outcomes-clause-changed g c =
+    let shows = g.D.Drive.shows in
+    let failures = g.D.Drive.failures in
+    let m = c.new-many.result in
+    let gathered = c.in_ok-gathered.gathered in
+    let ds = driven_by shows failures c.args.drives.now.items in
+    let e : m.drives ≡ ds = c.new-many.ensures.drives ∙ ap (λ (v : Vec g.row.D.Denot Global). driven_by shows failures v.items) c.replace-taken.ensures.value in
+    let listed : AreListed gathered.hits = subst (λ (v : Gathered). AreListed v.hits) c.gathered.view_is c.gathered.invariant in
+    let p = err_from_is_err_and c.from_residual-in_err-outcomes.result c.from_residual-in_err-outcomes.ensures.1 in
+    rw p.1
+    (λ is can.
+    c.in_err-outcomes.ensures.changed (ap Err (only_changed c.in_err-outcomes.field-0.0 p.0 p.2 is))
+    (can_give m gathered c.args.joiner.hits ds c.args.groups.now c.in_ok-gathered.ensures.hits listed e c.new-many.ensures.groups can))
 
 -- ---- they were made
 

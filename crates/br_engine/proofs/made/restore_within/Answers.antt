@@ -1,12 +1,12 @@
 use Rattle.std.proofs.Common.{◌≡◌, List, Ok, Option, map, subst}
-use Rattle.std.specs.Prelude.{IfOk, option_map}
+use Rattle.std.specs.Prelude.{IfErr, IfOk, option_map}
 use Rattle.std.proofs.lemmas.Result.{err_from_is_err_and}
 use Rattle.br_model.specs.Bootstrap.{Group}
 use Rattle.br_model.specs.Restored.{Names, files, planned_in}
 use Rattle.br_join.specs.Outcome.{restored}
-use Rattle.br_engine.specs.DeliveredAgain.{CanGive, CanReread, MadeOver}
+use Rattle.br_engine.specs.DeliveredAgain.{CanGive, CanReread, ChangedJoined, MadeOver}
 use Rattle.br_engine.specs.declared.made.MadeFiles.{MadeFiles}
-use Rattle.br_engine.proofs.AgainLaws.{fails_later, made_files, made_gives, stay_on}
+use Rattle.br_engine.proofs.AgainLaws.{fails_later, made_changed, made_files, made_gives, stay_on}
 use Rattle.br_engine.proofs.ExtractLaws.{gives_files, gives_refused}
 use Rattle.br_engine.proofs.JoinLaws.{files_of_hits, no_files_of}
 use Rattle.br_engine.proofs.made.restore_within.Goals as goal
@@ -70,3 +70,13 @@ pub returns-clause-failed : goal.returns-clause-failed
 returns-clause-failed g c =
     fails_later g.D.Drive.shows g.D.Drive.failures c.args.drives.now.items c.join_all.new.drives.items c.made_of.new.drives.items c.made_of.result
     c.in_ok-joiner.ensures.places c.made_of.ensures.failed
+
+pub returns-clause-changed : goal.returns-clause-changed
+returns-clause-changed g c =
+    let shows = g.D.Drive.shows in
+    let failures = g.D.Drive.failures in
+    let second = c.join_all.new.drives.items in
+    let joining = c.in_ok-joiner.joiner in
+    made_changed shows failures c.hits_stand.ensures c.standing_stays.ensures c.args.bootstrap.now c.args.drives.now.items second c.made_of.new.drives.items
+    c.in_ok-joiner.ensures.places c.made_of.ensures.places joining c.in_ok-joiner.ensures.hits c.made_of.result
+    (subst (λ (gs : List Group). IfErr c.made_of.result (ChangedJoined shows failures second gs joining)) c.groups.ensures.same c.made_of.ensures.changed)

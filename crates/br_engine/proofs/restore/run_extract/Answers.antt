@@ -1,11 +1,13 @@
 use Rattle.std.proofs.Common.{◌≡◌, List, [], ℕ, None, map, sym, subst}
 use Rattle.std.specs.Prelude.{option_map}
 use Rattle.std.proofs.lemmas.Result.{err_from_is_err_and}
+use Rattle.br_model.specs.Bootstrap.{Group}
 use Rattle.br_pool.proofs.WorkedLaws.{all_kept}
 use Rattle.br_engine.specs.BootstrapText.{ReadsAs}
 use Rattle.br_engine.specs.Restores.{change}
-use Rattle.br_engine.proofs.DeliverLaws.{read_refused}
-use Rattle.br_engine.proofs.RestoreLaws.{by_plain_order, text_restores}
+use Rattle.br_engine.specs.Restoring.{NoneStand}
+use Rattle.br_engine.proofs.DeliverLaws.{none_read, read_refused}
+use Rattle.br_engine.proofs.RestoreLaws.{by_plain_order, changed_weaker, text_restores}
 use Rattle.br_engine.proofs.restore.run_extract.Goals as goal
 
 -- ---- the text is not read
@@ -40,3 +42,15 @@ returns-clause-restores g c =
     (option_map g.S.Sink.has c.run.new.self.sink) c.deref.result.now c.in_ok-bootstrap.bootstrap (λ rs lines. lines ≡ []) c.run.result alike c.in_ok-bootstrap.ensures.exact
     (by_plain_order c.plain.result (change g.D.Drive g.W.Write g.S.Sink (c.args.restore.now, c.args.writer.now) (c.run.new.self, c.run.new.writer)) c.run.result
     c.in_ok-bootstrap.bootstrap None c.plain.ensures.bootstrap c.plain.ensures.names c.plain.ensures.wanted c.run.ensures.restores)
+
+pub returns-clause-changed : goal.returns-clause-changed
+returns-clause-changed g c =
+    let known = g.R.Read.remaining c.args.reader.now in
+    let alike = subst (λ (t : List ℕ). ReadsAs t known) (sym c.deref.ensures.value) c.in_ok-text.ensures.alike in
+    let earlier = map g.D.Drive.shows c.args.restore.now.drives.items in
+    let later = map g.D.Drive.shows c.run.new.self.drives.items in
+    changed_weaker (NoneStand earlier later c.plain.result.asked.bootstrap.now) _ c.run.result
+    (λ none.
+    none_read known earlier later c.deref.result.now c.in_ok-bootstrap.bootstrap alike c.in_ok-bootstrap.ensures.exact
+    (subst (λ (gs : List Group). NoneStand earlier later gs) c.plain.ensures.bootstrap none))
+    c.run.ensures.changed

@@ -12,8 +12,10 @@ use Rattle.br_join.specs.Outcome.{restored}
 use Rattle.br_engine.specs.DeliveredAgain.{CanGive, EndsLike}
 use Rattle.br_engine.specs.Restoring.{AllStand}
 use Rattle.br_engine.specs.declared.fault.ExtractFault.TheVariants.{Memory}
-use Rattle.br_engine.proofs.AgainLaws.{nothing_written, only_grow, stand_midst, stay_on}
-use Rattle.br_engine.proofs.DeliverLaws.{delivers_refused, free_is_no_drive, free_is_no_line, gives_free}
+use Rattle.br_engine.specs.Outputs.{StopsOnlyIf}
+use Rattle.br_engine.proofs.AgainLaws.{fail_later, nothing_written, only_grow, stand_midst, stay_on}
+use Rattle.br_engine.proofs.DeliverLaws.{delivers_refused, free_is_no_change, free_is_no_drive, free_is_no_line, gives_free}
+use Rattle.br_engine.proofs.EndLaws.{stops_weaker}
 use Rattle.br_engine.specs.WantedOutcomes.{left_by}
 use Rattle.br_engine.specs.declared.extracted.Extracted.{Extracted}
 use Rattle.br_engine.proofs.BackLaws.{gives_delivered}
@@ -69,6 +71,11 @@ returns-in_err-write_manifest-clause-failed g c =
     let p = err_from_is_err_and c.from_residual-in_err-write_manifest.result c.from_residual-in_err-write_manifest.ensures.1 in
     rw (p.1, p.2) (λ is. absurd (free_is_no_drive c.in_err-write_manifest.field-0.0 c.in_err-write_manifest.ensures.free is))
 
+pub returns-in_err-write_manifest-clause-changed : goal.returns-in_err-write_manifest-clause-changed
+returns-in_err-write_manifest-clause-changed g c =
+    let p = err_from_is_err_and c.from_residual-in_err-write_manifest.result c.from_residual-in_err-write_manifest.ensures.1 in
+    rw (p.1, p.2) (λ is. absurd (free_is_no_change c.in_err-write_manifest.field-0.0 c.in_err-write_manifest.ensures.free is))
+
 -- ---- the files are restored
 
 pub returns-clause-restores : goal.returns-clause-restores
@@ -104,6 +111,35 @@ returns-clause-restores g c =
     (subst (λ os. EndsLike (CanGive shows failures second c.groups-groups.result.now made.gathered (map restored os)) had has (map restored os) c.deliver_made-end.result) c.keep_delivered.ensures
     c.deliver_made-end.ensures.ends))
     (rw c.deref.ensures.value at c.in_ok-prepared.ensures.missing) (rw c.deref.ensures.value at c.in_ok-prepared.ensures.left)
+
+pub returns-clause-changed : goal.returns-clause-changed
+returns-clause-changed g c =
+    let shows = g.D.Drive.shows in
+    let failures = g.D.Drive.failures in
+    let first = c.args.self.now.drives.items in
+    let second = c.restore_within.new.drives.items in
+    let third = c.deliver_made-end.new.drives.items in
+    let groups = c.args.order.asked.bootstrap.now in
+    let made = c.in_ok-made.made in
+    let os = map restored made.outcomes.items in
+    let kept = map restored (left_by c.in_ok-prepared.prepared.flags made.outcomes.items) in
+    let wanted : kept ≡ _ = rw c.deref.ensures.value at c.in_ok-prepared.ensures.flags in
+    let end = c.deliver_made-end.result in
+    stops_weaker 72 _ _ end
+    (λ none volumes stands.
+    let midst = stand_midst (pieces_of groups) volumes (map shows first) (map shows second) (map shows third) stands
+    (only_grow shows failures first second c.in_ok-made.ensures.places) (only_grow shows failures second third c.deliver_made-end.ensures.places) in
+    none (gives_delivered shows failures second groups made.gathered c.args.order.wanted os kept wanted (c.in_ok-made.ensures.again volumes midst)))
+    (subst (λ (gs : List Group). StopsOnlyIf 72 (CanGive shows failures second gs made.gathered kept → ⊥) end) c.groups-groups.ensures.same
+    (subst (λ os. StopsOnlyIf 72 (CanGive shows failures second c.groups-groups.result.now made.gathered (map restored os) → ⊥) end) c.keep_delivered.ensures
+    c.deliver_made-end.ensures.changed))
+
+pub returns-clause-lost : goal.returns-clause-lost
+returns-clause-lost g c =
+    let first = c.args.self.now.drives.items in
+    let second = c.restore_within.new.drives.items in
+    let third = c.deliver_made-end.new.drives.items in
+    stops_weaker 70 _ _ c.deliver_made-end.result (fail_later g.D.Drive.shows g.D.Drive.failures first second third c.in_ok-made.ensures.places) c.deliver_made-end.ensures.lost
 
 pub returns-clause-places : goal.returns-clause-places
 returns-clause-places g c =
