@@ -83,9 +83,6 @@ pub(crate) fn report_stream<R: Eprint>(rt: &R, fault: &ExtractFault) -> io::Resu
         ExtractFault::Io(e) if e.kind() == ErrorKind::OutOfMemory => {
             Err(ErrorKind::OutOfMemory.into())
         }
-        ExtractFault::Io(e) if e.kind() == ErrorKind::InvalidData => {
-            eprintln!(rt; "brestore: {e}")
-        }
         ExtractFault::Io(e) => eprintln!(rt; "brestore: standard output: {e}"),
         ExtractFault::NoEnd(e) => eprintln!(rt; "brestore: standard output: {e}"),
         _ => Ok(()),
@@ -109,9 +106,6 @@ fn say_done(
 fn tell_stream(rt: &HostRuntime, gauge: &Gauge<'_>, fault: &ExtractFault) -> io::Result<()> {
     report_stream(rt, fault)?;
     match fault {
-        ExtractFault::Io(e) if e.kind() == ErrorKind::InvalidData => {
-            log_fault(rt, gauge, None, fault)
-        }
         ExtractFault::Io(_) | ExtractFault::NoEnd(_) => {
             log_fault(rt, gauge, Some("standard output"), fault)
         }

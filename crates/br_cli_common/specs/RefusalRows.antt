@@ -172,6 +172,9 @@ all_rows =
     row_with 71 (codes "MissingSeat")
     (codes "A thread's list of the numbers that it drew is missing.")
     (codes "Only library calls return it: keep the list of each thread.") ∷
+    row_with 72 (codes "VolumeChanged")
+    (codes "A volume was changed during the restore: bytes of a file are no longer what they were.")
+    (codes "A backup only appends to a volume: find out who changes it. Run the command again when nobody does, or try another copy.") ∷
     row_with 80 (codes "SinkFault")
     (codes "A file or folder could not be written, or its path is not UTF-8.")
     (codes "The first file of the manifest that is not whole in the folder is the one: check space and whether you may write there, or leave it out.") ∷

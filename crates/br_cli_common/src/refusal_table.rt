@@ -1,7 +1,7 @@
 use crate::refusal::Refusal;
 
 /// The refusals and the outcomes, in order of number.
-pub const REFUSALS: [Refusal; 54] = [
+pub const REFUSALS: [Refusal; 55] = [
     Refusal {
         number: 1,
         name: "Memory",
@@ -307,6 +307,12 @@ pub const REFUSALS: [Refusal; 54] = [
         name: "MissingSeat",
         meaning: "A thread's list of the numbers that it drew is missing.",
         next: "Only library calls return it: keep the list of each thread.",
+    },
+    Refusal {
+        number: 72,
+        name: "VolumeChanged",
+        meaning: "A volume was changed during the restore: bytes of a file are no longer what they were.",
+        next: "A backup only appends to a volume: find out who changes it. Run the command again when nobody does, or try another copy.",
     },
     Refusal {
         number: 80,

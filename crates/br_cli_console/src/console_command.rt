@@ -36,7 +36,7 @@ use br_types::{Path, Start};
 use br_volume::{Drive, HostDrive};
 use std::alloc::{AllocError, Global};
 use std::fs::File;
-use std::io::{self, BufRead, BufReader, BufWriter, ErrorKind, Printer, StdinLock};
+use std::io::{self, BufRead, BufReader, BufWriter, Printer, StdinLock};
 use std::sync::Wait;
 use std::thread::Threads;
 use thiserror::Error;
@@ -95,9 +95,6 @@ pub fn console_ending(
 /// Prints to standard error that a stream failed, if one did. Returns an error for memory.
 fn report_stream<R: Eprint>(rt: &R, fault: &ConsoleFault) -> io::Result<()> {
     match fault {
-        ConsoleFault::Io(e) if e.kind() == ErrorKind::InvalidData => {
-            eprintln!(rt; "brestore: {e}")
-        }
         ConsoleFault::Io(e) => eprintln!(rt; "brestore: standard input or output: {e}"),
         ConsoleFault::NoEnd(e) => eprintln!(rt; "brestore: standard input or output: {e}"),
         _ => Ok(()),
@@ -108,9 +105,6 @@ fn report_stream<R: Eprint>(rt: &R, fault: &ConsoleFault) -> io::Result<()> {
 fn tell_stream(rt: &HostRuntime, gauge: &Gauge<'_>, fault: &ConsoleFault) -> io::Result<()> {
     report_stream(rt, fault)?;
     match fault {
-        ConsoleFault::Io(e) if e.kind() == ErrorKind::InvalidData => {
-            log_fault(rt, gauge, None, fault)
-        }
         ConsoleFault::Io(_) | ConsoleFault::NoEnd(_) => {
             log_fault(rt, gauge, Some("standard input or output"), fault)
         }

@@ -6,7 +6,7 @@ use br_cli_common::{
     Matter, Reason, Target, reason_of_file, reason_of_folder, reason_of_new_file, refuse_start,
 };
 use br_cli_progress::Gauge;
-use br_engine::RestoreEnd;
+use br_engine::{RestoreCause, RestoreEnd};
 use br_join::Outcome;
 use br_match::{PieceCause, PieceFault};
 use br_pool::PoolFault;
@@ -131,6 +131,15 @@ fn say_conflict(rt: &HostRuntime, gauge: &Gauge<'_>, path: &Path, next: &str) ->
     gauge.say(line.as_str())
 }
 
+/// Reports that the data of the file of a path are no longer those of the manifest.
+fn say_changed(rt: &HostRuntime, gauge: &Gauge<'_>, path: &Path) -> io::Result<()> {
+    let mut escaped = Vec::new(rt.alloc());
+    push_escaped(&mut escaped, path.bytes())?;
+    let shown = String::from_utf8_lossy(rt.alloc(), &escaped)?;
+    let line = format!(in rt.alloc(); "  {shown} is no longer on the volumes as it was found")?;
+    gauge.say(line.as_str())
+}
+
 /// Reports the first of the files that are left out since they conflict with an earlier one.
 pub fn say_conflicts(rt: &HostRuntime, gauge: &Gauge<'_>, paths: &[Path]) -> io::Result<()> {
     if gauge.is_watching() {
@@ -151,11 +160,12 @@ pub fn say_stop(
 ) -> io::Result<()> {
     match (end, path) {
         (RestoreEnd::Stopped(stop), Some(path)) if gauge.is_watching() => match stop.cause() {
-            StopCause::Fault => say_failure(rt, gauge, target, path),
-            StopCause::Conflict => {
+            RestoreCause::Sink(StopCause::Fault) => say_failure(rt, gauge, target, path),
+            RestoreCause::Sink(StopCause::Conflict) => {
                 say_conflict(rt, gauge, path, "`extract --keep-going` leaves it out.")
             }
-            StopCause::Memory | StopCause::NoDriveLeft => Ok(()),
+            RestoreCause::Changed => say_changed(rt, gauge, path),
+            RestoreCause::Sink(StopCause::Memory) | RestoreCause::NoDriveLeft => Ok(()),
         },
         _ => Ok(()),
     }

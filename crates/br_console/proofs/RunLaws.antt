@@ -134,6 +134,7 @@ begins_free None before after history q why free = tt
 begins_free (Some text) before after history q fault.Memory free = tt
 begins_free (Some text) before after history q (fault.Plan why) free = absurd free
 begins_free (Some text) before after history q (fault.Piece why) free = absurd free
+begins_free (Some text) before after history q fault.Changed free = absurd free
 begins_free (Some text) before after history q (fault.Io why) free = tt
 begins_free (Some text) before after history q (fault.NoEnd turns) free = tt
 
@@ -152,6 +153,7 @@ unfolding begun
 begins_unplanned None before now after history q s lines marks why opened talked refused = tt
 begins_unplanned (Some text) before now after history q s lines marks fault.Memory opened talked refused = tt
 begins_unplanned (Some text) before now after history q s lines marks (fault.Piece why) opened talked refused = absurd refused
+begins_unplanned (Some text) before now after history q s lines marks fault.Changed opened talked refused = absurd refused
 begins_unplanned (Some text) before now after history q s lines marks (fault.Io why) opened talked refused = tt
 begins_unplanned (Some text) before now after history q s lines marks (fault.NoEnd turns) opened talked refused = absurd refused
 begins_unplanned (Some text) before now after history q s lines marks (fault.Plan why) opened talked refused = go (plan.cause why) refused.0
@@ -214,9 +216,11 @@ module _ (earlier later : Told) (before after : Option (List ℕ)) (had has : In
   plan_refused (extract.Bootstrap e) why is h = absurd is
   plan_refused (extract.Piece e) why is h =
       rw is ((λ volumes stands. piece_is (pool.cause e) (restored_files plan.groups (Some plan.names) volumes) (h.0 volumes stands)), h.1, h.2)
+  plan_refused extract.Changed why is h = rw is ((λ volumes stands. tt), h.1, h.2)
   plan_refused (extract.Io e) fault.Memory is h = ((λ volumes stands. tt), tt, h.2)
   plan_refused (extract.Io e) (fault.Plan why) is h = absurd is
   plan_refused (extract.Io e) (fault.Piece why) is h = absurd is
+  plan_refused (extract.Io e) fault.Changed is h = absurd is
   plan_refused (extract.Io e) (fault.Io why) is h = ((λ volumes stands. tt), tt, h.2)
   plan_refused (extract.Io e) (fault.NoEnd turns) is h = absurd is
   plan_refused (extract.NoEnd turns) why is h = absurd is
@@ -226,9 +230,11 @@ pub no_drive_stays : (e : ExtractFault) (why : ConsoleFault) → BecomesFault e 
 no_drive_stays extract.Memory why is h = ap fault_number (sym is) ∙ h
 no_drive_stays (extract.Bootstrap e) why is h = absurd is
 no_drive_stays (extract.Piece e) why is h = ap fault_number (sym is) ∙ h
+no_drive_stays extract.Changed why is h = ap fault_number (sym is) ∙ h
 no_drive_stays (extract.Io e) fault.Memory is h = absurd cc
 no_drive_stays (extract.Io e) (fault.Plan why) is h = absurd is
 no_drive_stays (extract.Io e) (fault.Piece why) is h = absurd is
+no_drive_stays (extract.Io e) fault.Changed is h = absurd is
 no_drive_stays (extract.Io e) (fault.Io why) is h = absurd cc
 no_drive_stays (extract.Io e) (fault.NoEnd turns) is h = absurd is
 no_drive_stays (extract.NoEnd turns) why is h = absurd is
@@ -238,6 +244,7 @@ pub free_is_no_piece : (why : ConsoleFault) → IsBrokenOff why → IsNoPiece wh
 free_is_no_piece fault.Memory free = tt
 free_is_no_piece (fault.Plan why) free = tt
 free_is_no_piece (fault.Piece why) free = absurd free
+free_is_no_piece fault.Changed free = absurd free
 free_is_no_piece (fault.Io why) free = tt
 free_is_no_piece (fault.NoEnd turns) free = tt
 
@@ -246,6 +253,7 @@ pub unplanned_is_no_piece : (now after : Option (List ℕ)) (expected : Result P
 unplanned_is_no_piece now after expected fault.Memory h = tt
 unplanned_is_no_piece now after expected (fault.Plan why) h = tt
 unplanned_is_no_piece now after expected (fault.Piece why) h = absurd h
+unplanned_is_no_piece now after expected fault.Changed h = absurd h
 unplanned_is_no_piece now after expected (fault.Io why) h = tt
 unplanned_is_no_piece now after expected (fault.NoEnd turns) h = tt
 
@@ -254,6 +262,7 @@ pub unplanned_has_end : (now after : Option (List ℕ)) (expected : Result Plan 
 unplanned_has_end now after expected fault.Memory h = tt
 unplanned_has_end now after expected (fault.Plan why) h = tt
 unplanned_has_end now after expected (fault.Piece why) h = tt
+unplanned_has_end now after expected fault.Changed h = tt
 unplanned_has_end now after expected (fault.Io why) h = tt
 unplanned_has_end now after expected (fault.NoEnd turns) h = absurd h
 
@@ -262,9 +271,11 @@ pub restored_has_end : (e : ExtractFault) (why : ConsoleFault) → BecomesFault 
 restored_has_end extract.Memory why is = rw is tt
 restored_has_end (extract.Bootstrap e) why is = absurd is
 restored_has_end (extract.Piece e) why is = rw is tt
+restored_has_end extract.Changed why is = rw is tt
 restored_has_end (extract.Io e) fault.Memory is = tt
 restored_has_end (extract.Io e) (fault.Plan why) is = tt
 restored_has_end (extract.Io e) (fault.Piece why) is = tt
+restored_has_end (extract.Io e) fault.Changed is = tt
 restored_has_end (extract.Io e) (fault.Io why) is = tt
 restored_has_end (extract.Io e) (fault.NoEnd turns) is = absurd is
 restored_has_end (extract.NoEnd turns) why is = absurd is
@@ -283,6 +294,7 @@ no_drive_in_piece (fault.Plan planning.NothingMarked) none is = let e : 51 ≡ 7
 no_drive_in_piece (fault.Plan planning.UnknownClient) none is = let e : 53 ≡ 70 = ap number_in is in omega (arith, e)
 no_drive_in_piece (fault.Plan planning.UnknownFileSet) none is = let e : 54 ≡ 70 = ap number_in is in omega (arith, e)
 no_drive_in_piece (fault.Piece why) none is = none
+no_drive_in_piece fault.Changed none is = none
 no_drive_in_piece (fault.Io why) none is = let e : 0 ≡ 70 = ap number_in is in omega (arith, e)
 no_drive_in_piece (fault.NoEnd turns) none is = let e : 0 ≡ 70 = ap number_in is in omega (arith, e)
 
@@ -304,6 +316,7 @@ runs_refused (Some text) earlier later before after history q why begins = λ vo
     by_fault volumes fault.Memory h = tt
     by_fault volumes (fault.Plan w) h = go volumes (plan.cause w) h
     by_fault volumes (fault.Piece w) h = absurd h
+    by_fault volumes fault.Changed h = absurd h
     by_fault volumes (fault.Io w) h = tt
     by_fault volumes (fault.NoEnd w) h = tt
 
@@ -367,6 +380,7 @@ runs_stopped (Some text) earlier later before now after had has history q lines 
     by_fault volumes fault.Memory h s = tt
     by_fault volumes (fault.Plan w) h s = absurd s
     by_fault volumes (fault.Piece w) h s = go volumes (pool.cause w) h s
+    by_fault volumes fault.Changed h s = tt
     by_fault volumes (fault.Io w) h s = tt
     by_fault volumes (fault.NoEnd w) h s = absurd s
 
@@ -378,6 +392,7 @@ tells_refused None before after history q why begins = tt
 tells_refused (Some text) before after history q fault.Memory begins = tt
 tells_refused (Some text) before after history q (fault.Plan why) begins = begins
 tells_refused (Some text) before after history q (fault.Piece why) begins = absurd begins
+tells_refused (Some text) before after history q fault.Changed begins = absurd begins
 tells_refused (Some text) before after history q (fault.Io why) begins = tt
 tells_refused (Some text) before after history q (fault.NoEnd turns) begins = tt
 
@@ -399,6 +414,8 @@ tells_stopped None before now after history q lines plan why begins stops = tt
 tells_stopped (Some text) before now after history q lines plan fault.Memory begins stops = tt
 tells_stopped (Some text) before now after history q lines plan (fault.Plan why) begins stops = absurd stops
 tells_stopped (Some text) before now after history q lines plan (fault.Piece why) begins stops =
+    (plan, begins.1, Appends-kept before now after (begun history q text).text begins.2 stops)
+tells_stopped (Some text) before now after history q lines plan fault.Changed begins stops =
     (plan, begins.1, Appends-kept before now after (begun history q text).text begins.2 stops)
 tells_stopped (Some text) before now after history q lines plan (fault.Io why) begins stops = tt
 tells_stopped (Some text) before now after history q lines plan (fault.NoEnd turns) begins stops = absurd stops

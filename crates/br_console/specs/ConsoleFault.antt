@@ -8,19 +8,20 @@ use Rattle.br_plan.specs.Fault as plan
 use Rattle.br_pool.specs.Fault as pool
 use Rattle.br_engine.specs.Fault.{pool_text}
 use Rattle.br_console.specs.declared.console_fault.ConsoleFault.{ConsoleFault}
-use Rattle.br_console.specs.declared.console_fault.ConsoleFault.TheVariants.{Memory, Plan, Piece, Io, NoEnd}
+use Rattle.br_console.specs.declared.console_fault.ConsoleFault.TheVariants.{Memory, Plan, Piece, Changed, Io, NoEnd}
 
 -- the number of a refused choice or plan, or that of a piece's fault
 pub data Refusal : Type 0 where
   OfPlan : ℕ → Refusal
   OfPiece : model.PieceFault → Refusal
 
--- The refusal that history, lines and volumes decide. There is none if memory ran out, no drive is left, reading or
--- writing failed, or the lines have no end.
+-- The refusal that history, lines and volumes decide. There is none if memory ran out, no drive is left, a volume was
+-- changed, reading or writing failed, or the lines have no end.
 abbrev pub cause : ConsoleFault → Option Refusal
 cause Memory = None
 cause (Plan fault) = option_map OfPlan (plan.cause fault)
 cause (Piece fault) = option_map OfPiece (pool.cause fault)
+cause Changed = None
 cause (Io fault) = None
 cause (NoEnd turns) = None
 
@@ -30,6 +31,7 @@ abbrev pub fault_number : ConsoleFault → Option ℕ
 fault_number Memory = Some 1
 fault_number (Plan fault) = Some (plan.fault_number fault)
 fault_number (Piece fault) = Some (pool.fault_number fault)
+fault_number Changed = Some 72
 fault_number (Io fault) = None
 fault_number (NoEnd turns) = None
 
@@ -39,14 +41,16 @@ abbrev pub fault_text : ConsoleFault → List ℕ
 fault_text Memory = refused_line 1
 fault_text (Plan fault) = refused_line (plan.fault_number fault)
 fault_text (Piece fault) = pool_text fault
+fault_text Changed = refused_line 72
 fault_text (Io fault) = []
 fault_text (NoEnd turns) = []
 
--- anything but a refusal of the pieces
+-- anything but a refusal of the pieces or a volume that was changed
 abbrev pub IsNoPiece : ConsoleFault → Type 0
 IsNoPiece Memory = ⊤
 IsNoPiece (Plan fault) = ⊤
 IsNoPiece (Piece fault) = ⊥
+IsNoPiece Changed = ⊥
 IsNoPiece (Io fault) = ⊤
 IsNoPiece (NoEnd turns) = ⊤
 
@@ -55,6 +59,7 @@ abbrev pub IsFree : ConsoleFault → Type 0
 IsFree Memory = ⊤
 IsFree (Plan fault) = ⊥
 IsFree (Piece fault) = ⊥
+IsFree Changed = ⊥
 IsFree (Io fault) = ⊤
 IsFree (NoEnd turns) = ⊥
 
@@ -63,6 +68,7 @@ abbrev pub IsBrokenOff : ConsoleFault → Type 0
 IsBrokenOff Memory = ⊤
 IsBrokenOff (Plan fault) = ⊥
 IsBrokenOff (Piece fault) = ⊥
+IsBrokenOff Changed = ⊥
 IsBrokenOff (Io fault) = ⊤
 IsBrokenOff (NoEnd turns) = ⊤
 
@@ -71,6 +77,7 @@ abbrev pub EndlessAfterAll : ConsoleFault → Type 0
 EndlessAfterAll Memory = ⊤
 EndlessAfterAll (Plan fault) = ⊤
 EndlessAfterAll (Piece fault) = ⊤
+EndlessAfterAll Changed = ⊤
 EndlessAfterAll (Io fault) = ⊤
 EndlessAfterAll (NoEnd turns) = turns ≡ 2 ^ 40
 

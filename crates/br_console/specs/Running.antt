@@ -107,8 +107,8 @@ abbrev pub Shows : ConsoleRun → Answer → Type 0
 Shows run answer = (are_accepted run.lines ≡ answer.is_clean) × EndIs run.end answer.restored
 
 -- The refusal is the expected one, and what is expected was appended to what the writer held. There
--- is no refusal to compare if memory ran out, no drive is left, or reading or writing failed, which
--- may happen at any time.
+-- is no refusal to compare if memory ran out, no drive is left, a volume was changed, or reading or
+-- writing failed, which may happen at any time.
 abbrev pub RefusesRun : Option (List ℕ) → Option (List ℕ) → Run → Option Refusal → Type 0
 RefusesRun before after expected None = ⊤
 RefusesRun before after expected (Some why) = (expected.answer ≡ Err why) × Appends before after expected.text
@@ -139,12 +139,13 @@ Ends before after b (Done end) =
     (plan : Plan) × (rs : List Restored) × (b.plan ≡ Ok (Some plan)) × EndTells end rs × Appends before after (b.text ++ manifest rs)
 
 -- Whatever the drives do, what is written before one is used was written first. Nothing more is
--- written if the choice or the plan is refused, or a piece by any fault.
+-- written if the choice or the plan is refused, a piece by any fault, or a volume was changed.
 abbrev pub Tells : Option (List ℕ) → Option (List ℕ) → Begun → Result ConsoleRun ConsoleFault → Type 0
 Tells before after b (Ok run) = (b.is_clean ≡ are_accepted run.lines) × Ends before after b run.end
 Tells before after b (Err fault.Memory) = ⊤
 Tells before after b (Err (fault.Plan why)) = IfSome (plan.cause why) (λ n. (b.plan ≡ Err n) × Appends before after b.text)
 Tells before after b (Err (fault.Piece why)) = (plan : Plan) × (b.plan ≡ Ok (Some plan)) × Appends before after b.text
+Tells before after b (Err fault.Changed) = (plan : Plan) × (b.plan ≡ Ok (Some plan)) × Appends before after b.text
 Tells before after b (Err (fault.Io why)) = ⊤
 Tells before after b (Err (fault.NoEnd turns)) = ⊤
 
@@ -161,6 +162,7 @@ WritesPlan before after expected (Ok plan) = (expected ≡ Ok plan) × Appends b
 WritesPlan before after expected (Err fault.Memory) = ⊤
 WritesPlan before after expected (Err (fault.Plan why)) = IsRefusal (plan.cause why) expected × Keeps before after
 WritesPlan before after expected (Err (fault.Piece why)) = ⊥
+WritesPlan before after expected (Err fault.Changed) = ⊥
 WritesPlan before after expected (Err (fault.Io why)) = ⊤
 WritesPlan before after expected (Err (fault.NoEnd turns)) = ⊥
 
@@ -171,6 +173,7 @@ Begins before after b (Ok made) = (b.is_clean ≡ are_accepted made.0) × (b.pla
 Begins before after b (Err fault.Memory) = ⊤
 Begins before after b (Err (fault.Plan why)) = IfSome (plan.cause why) (λ n. (b.plan ≡ Err n) × Appends before after b.text)
 Begins before after b (Err (fault.Piece why)) = ⊥
+Begins before after b (Err fault.Changed) = ⊥
 Begins before after b (Err (fault.Io why)) = ⊤
 Begins before after b (Err (fault.NoEnd turns)) = ⊤
 
@@ -188,11 +191,12 @@ abbrev pub OverPlan : Told → Told → Plan → Said → Type 0
 OverPlan earlier later plan holds =
     (volumes : List Volume) → AllStand earlier later (pieces_of plan.groups) volumes → holds (restored_files plan.groups (Some plan.names) volumes)
 
--- after the fault of a piece nothing was written
+-- after the fault of a piece, or if a volume was changed, nothing was written
 abbrev pub StopsAt : Option (List ℕ) → Option (List ℕ) → ConsoleFault → Type 0
 StopsAt before after fault.Memory = ⊤
 StopsAt before after (fault.Plan why) = ⊥
 StopsAt before after (fault.Piece why) = Keeps before after
+StopsAt before after fault.Changed = Keeps before after
 StopsAt before after (fault.Io why) = ⊤
 StopsAt before after (fault.NoEnd turns) = ⊥
 
@@ -210,6 +214,7 @@ abbrev pub BecomesFault : ExtractFault → ConsoleFault → Type 0
 BecomesFault extract.Memory why = why ≡ fault.Memory
 BecomesFault (extract.Bootstrap e) why = ⊥
 BecomesFault (extract.Piece e) why = why ≡ fault.Piece e
+BecomesFault extract.Changed why = why ≡ fault.Changed
 BecomesFault (extract.Io e) why = IsFree why
 BecomesFault (extract.NoEnd turns) why = ⊥
 

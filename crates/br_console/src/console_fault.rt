@@ -22,6 +22,9 @@ pub enum ConsoleFault {
     /// A volume could not be read, or no drive is left.
     #[error("{0}")]
     Piece(PoolFault),
+    /// Data that are read again are no longer those that were found.
+    #[error("a volume was changed while it was read")]
+    Changed,
     /// Reading the lines or writing the results failed.
     #[error("{0}")]
     Io(io::Error),
@@ -77,8 +80,8 @@ impl From<NoEnd> for ConsoleFault {
 
 impl ConsoleFault {
     /// Returns the number of the refusal: 1 out of memory, 50, 53 or 54 no jobs to choose, 51
-    /// nothing marked, 10 to 12 and 14 a volume, 70 no drive left. A fault of reading or writing is
-    /// no refusal, and neither are lines without an end.
+    /// nothing marked, 10 to 12 and 14 a volume, 70 no drive left, 72 a volume that was changed. A
+    /// fault of reading or writing is no refusal, and neither are lines without an end.
     pub fn number(&self) -> Option<u32>
         ensures { result ≡ fault_number self.now }
     {
@@ -86,6 +89,7 @@ impl ConsoleFault {
             ConsoleFault::Memory => Some(1),
             ConsoleFault::Plan(fault) => Some(fault.number()),
             ConsoleFault::Piece(fault) => Some(fault.number()),
+            ConsoleFault::Changed => Some(72),
             ConsoleFault::Io(_) | ConsoleFault::NoEnd(_) => None,
         }
     }
@@ -102,6 +106,7 @@ impl ConsoleFault {
             ConsoleFault::Memory => push_refused_line(text, 1),
             ConsoleFault::Plan(fault) => push_refused_line(text, fault.number()),
             ConsoleFault::Piece(fault) => push_pool_line(text, fault),
+            ConsoleFault::Changed => push_refused_line(text, 72),
             ConsoleFault::Io(_) | ConsoleFault::NoEnd(_) => Ok(()),
         }
     }

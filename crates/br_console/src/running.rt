@@ -59,7 +59,7 @@ fn write_plan<W: Flush>(
 ///
 /// # Errors
 ///
-/// As `run_console`, without `Piece`.
+/// As `run_console`, without `Piece` and `Changed`.
 pub fn prepare<R: BufRead + Drop, W: Flush>(
     alloc: Global,
     asked: &JobSelection<'_>,
@@ -93,6 +93,7 @@ fn console_fault(fault: ExtractFault) -> ConsoleFault
     match fault {
         ExtractFault::Memory => ConsoleFault::Memory,
         ExtractFault::Piece(fault) => ConsoleFault::Piece(fault),
+        ExtractFault::Changed => ConsoleFault::Changed,
         ExtractFault::Io(fault) => ConsoleFault::from(fault),
         ExtractFault::Bootstrap(_) | ExtractFault::NoEnd(_) => unreachable!(),
     }
@@ -111,6 +112,7 @@ fn console_fault(fault: ExtractFault) -> ConsoleFault
 /// - `Plan` if the choice is refused (53, 54, 50); then nothing is read or written. Or after the dialogue
 ///   if nothing is marked (51).
 /// - `Piece` after the bootstrap for the first volume that can't be read, or if no drive is left.
+/// - `Changed` after the bootstrap if a volume was changed while it was read.
 /// - `Memory` and `Io` as in a session, at any time, and `NoEnd` as in a session; then a part of a text may
 ///   have been written.
 ///

@@ -9,7 +9,6 @@ use br_fs::{Kind, MemMaker};
 use br_sink::{MemSink, Sink};
 use br_sink_folder::FolderSink;
 use br_test_support::Case;
-use std::io::ErrorKind;
 use std::sync::Wait;
 use std::thread::Threads;
 
@@ -29,9 +28,6 @@ fn push_end(case: &mut Case, run: &Result<Extracted, ExtractFault>) {
     case.done(done);
     match run {
         Ok(done) => push_name(case, &done.end),
-        Err(ExtractFault::Io(fault)) if fault.kind() == ErrorKind::InvalidData => {
-            case.text("InvalidData ");
-        }
         Err(_fault) => {}
     }
     push_line(case, &line);
