@@ -7,6 +7,7 @@ use Rattle.br_model.specs.Answer.{IsRefusal, refused_as}
 use Rattle.br_model.specs.Volume.{Volume}
 use Rattle.br_model.specs.Bootstrap.{Group, canonical}
 use Rattle.br_model.specs.Meaning as model
+use Rattle.br_model.specs.Meaning.{pieces_of}
 use Rattle.br_model.specs.Restored.{Names, Planned, Restored, planned_in}
 use Rattle.br_model.specs.Manifest.{manifest}
 use Rattle.br_model.specs.Job.{JobRows}
@@ -24,7 +25,7 @@ use Rattle.br_plan.specs.declared.fault.PlanFault.TheVariants as planning
 use Rattle.br_pool.specs.Fault as pool
 use Rattle.br_tree.specs.Marking.{Marking, console_at, unmarked}
 use Rattle.br_mark.specs.Seen.{Situation}
-use Rattle.br_engine.specs.Restoring.{Told, restored_files}
+use Rattle.br_engine.specs.Restoring.{AllStand, NoneStand, Told, restored_files}
 use Rattle.br_engine.specs.Fault as engine
 use Rattle.br_engine.specs.Outputs.{EndTells, InSink, are_files}
 use Rattle.br_engine.specs.Extracting.{OverVolumes, Said}
@@ -38,10 +39,10 @@ use Rattle.br_engine.specs.declared.restore_end.RestoreEnd.{RestoreEnd}
 use Rattle.br_engine.specs.declared.restore_end.RestoreEnd.TheVariants as restore
 use Rattle.br_engine.specs.declared.fault.ExtractFault.{ExtractFault}
 use Rattle.br_engine.specs.declared.fault.ExtractFault.TheVariants as extract
-use Rattle.br_console.specs.ConsoleFault.{Refusal, OfPlan, OfPiece, EndlessAfterAll, IsBrokenOff, IsNoPiece, cause, fault_number}
+use Rattle.br_console.specs.ConsoleFault.{Refusal, OfPlan, OfPiece, EndlessAfterAll, IsBrokenOff, IsFree, IsNoPiece, cause, fault_number}
 use Rattle.br_console.specs.ConsoleEnding.{EndIs, are_accepted, is_done}
 use Rattle.br_console.specs.Talking.{are_answered, SessionOver, LeavesOver}
-use Rattle.br_console.specs.Running.{opening, begun, with_files, run_from, console_run, Answer, BecomesFault, Begins, BeginsOver, RefusesRun, RestoresOver, RestoresPlan, RunsOver, StopsAt, TellsOver, WritesPlan}
+use Rattle.br_console.specs.Running.{opening, begun, with_files, run_from, console_run, Answer, BecomesFault, Begins, BeginsOver, NoneStandForPlan, RefusesRun, RestoresOver, RestoresPlan, RunsOver, StopsAt, TellsOver, WritesPlan}
 use Rattle.br_console.specs.declared.console_fault.ConsoleFault.{ConsoleFault}
 use Rattle.br_console.specs.declared.console_fault.ConsoleFault.TheVariants as fault
 use Rattle.br_console.specs.declared.ending.LineVerdict.{LineVerdict}
@@ -238,6 +239,23 @@ no_drive_stays (extract.Io e) fault.Changed is h = absurd is
 no_drive_stays (extract.Io e) (fault.Io why) is h = absurd cc
 no_drive_stays (extract.Io e) (fault.NoEnd turns) is h = absurd is
 no_drive_stays (extract.NoEnd turns) why is h = absurd is
+
+-- that a volume was changed stays so
+pub change_stays : (e : ExtractFault) (why : ConsoleFault) → BecomesFault e why → why ≡ fault.Changed → e ≡ extract.Changed
+change_stays extract.Memory why is h = let both : fault.Memory ≡ fault.Changed = sym is ∙ h in absurd cc
+change_stays (extract.Bootstrap e) why is h = absurd is
+change_stays (extract.Piece e) why is h = let both : fault.Piece e ≡ fault.Changed = sym is ∙ h in absurd cc
+change_stays extract.Changed why is h = refl
+change_stays (extract.Io e) why is h = absurd (subst IsFree h is)
+change_stays (extract.NoEnd turns) why is h = absurd is
+
+-- there are no volumes for the bootstrap of a plan
+pub none_planned : (known : Option (List ℕ)) (earlier later : Told) (before now : Option (List ℕ)) (history : List JobRows) (q : Request) (lines : LineVerdict) (plan : Plan)
+    (asked groups : List Group) → BeginsOver known before now history q (Ok (lines, Some plan)) → asked ≡ groups → groups ≡ plan.groups → NoneStand earlier later asked
+    → NoneStandForPlan known earlier later history q
+none_planned None earlier later before now history q lines plan asked groups begins is same none = tt
+none_planned (Some text) earlier later before now history q lines plan asked groups begins is same none = λ volumes stands.
+    none volumes (subst (λ (gs : List Group). AllStand earlier later (pieces_of gs) volumes) (sym (is ∙ same)) (stands plan begins.1))
 
 -- a session that was broken off is not the fault of a piece
 pub free_is_no_piece : (why : ConsoleFault) → IsBrokenOff why → IsNoPiece why

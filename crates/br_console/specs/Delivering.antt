@@ -9,16 +9,17 @@ use Rattle.br_model.specs.Plan.{Plan, plan_of}
 use Rattle.br_plan.specs.Asked.{Asked}
 use Rattle.br_plan.specs.Means.{IsViewOfChosen}
 use Rattle.br_engine.specs.Restoring.{Told}
-use Rattle.br_engine.specs.Outputs.{InSink, StopsByFailure}
+use Rattle.br_engine.specs.Outputs.{AllFail, InSink, StopsByFailure, StopsOnlyIf}
 use Rattle.br_engine.specs.Restores.{Change}
 use Rattle.br_engine.specs.declared.restore.Restore.{Restore}
 use Rattle.br_console.specs.ConsoleEnding.{LeavesSink, are_accepted}
-use Rattle.br_console.specs.Running.{BeginsOver, RestoresOver, RunsOver, TellsOver}
+use Rattle.br_console.specs.Running.{BeginsOver, NoneStandForPlan, RestoresOver, RunsOver, TellsOver}
 use Rattle.br_console.specs.declared.ending.LineVerdict.{LineVerdict}
 use Rattle.br_console.specs.declared.ending.End.{End}
 use Rattle.br_console.specs.declared.ending.End.TheVariants.{Done, Quit}
 use Rattle.br_console.specs.declared.ending.ConsoleRun.{ConsoleRun}
 use Rattle.br_console.specs.declared.console_fault.ConsoleFault.{ConsoleFault}
+use Rattle.br_console.specs.declared.console_fault.ConsoleFault.TheVariants.{Changed}
 
 -- The run restored these files, or none if the dialogue did not end with `done`, and exactly the
 -- same files were put. If the run is refused, nothing was put.
@@ -71,3 +72,24 @@ EndsByFailure earlier later Quit = ⊤
 abbrev pub RunStopIsCounted : {D S : Type 0} → (S → ℕ) → Restore D S → Restore D S → Result ConsoleRun ConsoleFault → Type 0
 RunStopIsCounted failures before after result =
     IfOk result (λ run. EndsByFailure (option_map failures before.sink) (option_map failures after.sink) run.end)
+
+-- ---- drives that failed, and volumes that were changed
+
+-- the delivery of a run stopped by this number only if this holds
+abbrev pub EndsOnlyIf : ℕ → Type 0 → End → Type 0
+EndsOnlyIf number claim (Done end) = StopsOnlyIf number claim end
+EndsOnlyIf number claim Quit = ⊤
+
+-- a stop by 70 comes only if each drive failed
+abbrev pub RunStopIsLost : {D S : Type 0} → (D → ℕ) → Restore D S → Restore D S → Result ConsoleRun ConsoleFault → Type 0
+RunStopIsLost failures before after result =
+    IfOk result (λ run. EndsOnlyIf 70 (AllFail failures before.drives.items after.drives.items) run.end)
+
+-- a run is refused, or its delivery stops, by 72 only if this holds
+abbrev pub RunOnlyIfChanged : Type 0 → Result ConsoleRun ConsoleFault → Type 0
+RunOnlyIfChanged claim (Ok run) = EndsOnlyIf 72 claim run.end
+RunOnlyIfChanged claim (Err why) = why ≡ Changed → claim
+
+-- that happens only if there are no volumes that each of the drives may be taken to show
+abbrev pub ChangesOnlyInto : Option (List ℕ) → Change → Asked → Result ConsoleRun ConsoleFault → Type 0
+ChangesOnlyInto known seen asked result = RunOnlyIfChanged (NoneStandForPlan known seen.old.told seen.new.told asked.history asked.request) result

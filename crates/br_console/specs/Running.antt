@@ -122,6 +122,12 @@ Runs before after (Err why) expected = RefusesRun before after expected (cause w
 abbrev pub AllStandForPlan : Told → Told → Begun → List Volume → Type 0
 AllStandForPlan earlier later b volumes = (plan : Plan) → b.plan ≡ Ok (Some plan) → AllStand earlier later (pieces_of plan.groups) volumes
 
+-- if the reader reports its bytes, there are no volumes that each of the drives may be taken to show
+abbrev pub NoneStandForPlan : Option (List ℕ) → Told → Told → List JobRows → Request → Type 0
+NoneStandForPlan (Some text) earlier later history q =
+    (volumes : List Volume) → AllStandForPlan earlier later (begun history q text) volumes → ⊥
+NoneStandForPlan None earlier later history q = ⊤
+
 -- if the reader reports its bytes, the run is that of these bytes over all volumes that each of the
 -- drives may be taken to show
 abbrev pub RunsOver : Option (List ℕ) → Told → Told → Option (List ℕ) → Option (List ℕ) → List JobRows → Request → Result ConsoleRun ConsoleFault → Type 0

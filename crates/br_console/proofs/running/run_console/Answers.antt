@@ -3,8 +3,10 @@ use Rattle.std.proofs.lemmas.Result.{err_from_is_err_and}
 use Rattle.br_model.specs.Plan.{Plan}
 use Rattle.br_pool.proofs.WorkedLaws.{all_kept}
 use Rattle.br_engine.specs.Restores.{change}
+use Rattle.br_engine.proofs.EndLaws.{stops_weaker}
+use Rattle.br_console.specs.ConsoleFault.{IsNoPiece}
 use Rattle.br_console.specs.Running.{BeginsOver}
-use Rattle.br_console.proofs.RunLaws.{by_plan, no_drive_in_piece, no_drive_stays, plan_refused, plan_restored, restored_has_end, restores_files, restores_undone, runs_refused, runs_restored, runs_stopped, runs_undone, tells_refused, tells_restored, tells_stopped, tells_undone}
+use Rattle.br_console.proofs.RunLaws.{by_plan, change_stays, no_drive_in_piece, no_drive_stays, none_planned, plan_refused, plan_restored, restored_has_end, restores_files, restores_undone, runs_refused, runs_restored, runs_stopped, runs_undone, tells_refused, tells_restored, tells_stopped, tells_undone}
 use Rattle.br_console.proofs.running.run_console.Goals as goal
 
 -- ---- before a drive is asked
@@ -46,6 +48,11 @@ pub returns-in_err-lines-clause-failed : goal.returns-in_err-lines-clause-failed
 returns-in_err-lines-clause-failed g c =
     let p = err_from_is_err_and c.from_residual.result c.from_residual.ensures.1 in
     rw (p.1, p.2) (λ is. absurd (no_drive_in_piece c.in_err-lines.field-0.0 c.in_err-lines.ensures.driveless is))
+
+pub returns-in_err-lines-clause-changed : goal.returns-in_err-lines-clause-changed
+returns-in_err-lines-clause-changed g c =
+    let p = err_from_is_err_and c.from_residual.result c.from_residual.ensures.1 in
+    rw (p.1, p.2) (λ is. absurd (subst IsNoPiece is c.in_err-lines.ensures.driveless))
 
 -- ---- the dialogue did not end by `done`
 
@@ -155,6 +162,18 @@ returns-clause-endless g c = restored_has_end c.in-Err.fault c.console_fault.res
 pub returns-clause-failed : goal.returns-clause-failed
 returns-clause-failed g c = λ is. c.in-Err.ensures.failed (no_drive_stays c.in-Err.fault c.console_fault.result c.console_fault.ensures is)
 
+pub returns-clause-changed : goal.returns-clause-changed
+returns-clause-changed g c = λ is.
+    let known = g.R.Read.remaining c.args.reader.now in
+    let before = g.W.Write.contents c.args.writer.now in
+    let seen = change g.D.Drive g.W.Write g.S.Sink (c.args.restore.now, c.prepare.new.writer) (c.run.new.self, c.run.new.writer) in
+    let asked = c.args.asked.now in
+    let lines = c.in_ok-lines.lines in
+    let begins =
+    subst (λ (p : Option Plan). BeginsOver known before seen.old.written asked.history asked.request (Ok (lines, p))) c.in-Some.is c.in_ok-lines.ensures.begins in
+    none_planned known seen.old.told seen.new.told before seen.old.written asked.history asked.request lines c.in-Some.plan _ _ begins c.plain-order.ensures.bootstrap
+    c.into_parts-bootstrap.ensures.bootstrap (c.in-Err.ensures.changed (change_stays c.in-Err.fault c.console_fault.result c.console_fault.ensures is))
+
 -- ---- the files are restored
 
 pub returns-in-Ok-clause-delivers : goal.returns-in-Ok-clause-delivers
@@ -216,3 +235,17 @@ returns-in-Ok-clause-tells g c =
 
 pub returns-in-Ok-clause-untouched : goal.returns-in-Ok-clause-untouched
 returns-in-Ok-clause-untouched g c = λ n refused. absurd (c.in_ok-lines.ensures.chosen n refused)
+
+pub returns-in-Ok-clause-changed : goal.returns-in-Ok-clause-changed
+returns-in-Ok-clause-changed g c =
+    let known = g.R.Read.remaining c.args.reader.now in
+    let before = g.W.Write.contents c.args.writer.now in
+    let seen = change g.D.Drive g.W.Write g.S.Sink (c.args.restore.now, c.prepare.new.writer) (c.run.new.self, c.run.new.writer) in
+    let asked = c.args.asked.now in
+    let lines = c.in_ok-lines.lines in
+    let begins =
+    subst (λ (p : Option Plan). BeginsOver known before seen.old.written asked.history asked.request (Ok (lines, p))) c.in-Some.is c.in_ok-lines.ensures.begins in
+    stops_weaker 72 _ _ c.in-Ok.done.end
+    (none_planned known seen.old.told seen.new.told before seen.old.written asked.history asked.request lines c.in-Some.plan _ _ begins c.plain-order.ensures.bootstrap
+    c.into_parts-bootstrap.ensures.bootstrap)
+    c.in-Ok.ensures.changed
