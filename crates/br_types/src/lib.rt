@@ -16,6 +16,7 @@
 //! Any call that returns a `Result` may also fail because memory ran out.
 #![tactic(auto)]
 
+mod blanks;
 mod bytes;
 mod conflicts;
 mod decimal;
@@ -34,7 +35,8 @@ mod number;
 mod path;
 mod wanted;
 
-pub use bytes::{are_digits, has_no_nul, is_blank_byte, is_directory_path};
+pub use blanks::trimmed;
+pub use bytes::{are_digits, has_no_nul, is_directory_path, place_of};
 pub use conflicts::{Ways, add_folders, add_path, is_next};
 pub use decimal::{push_number, push_wide};
 pub use decimal_field::read_number;
