@@ -28,7 +28,7 @@ from common import MIB, VERSION_1_SQL, escaped
 from reading import stat_of
 from row_text import BadRow, main
 from scripting import put_line
-from stops import COMMITS, text_of
+from stops import COMMITS, RESTORE, text_of
 from stored import memory, served
 
 HERE = Path(__file__).resolve().parent
@@ -38,6 +38,7 @@ WORDS = {it.stem.replace("_", " "): it.read_text() for it in (HERE / "catalogues
 TWO_JOBS, OLD_TABLES = WORDS.pop("two jobs"), Path(VERSION_1_SQL).read_text().partition("INSERT")[0]
 WORDS["jobs"] = TWO_JOBS + WORDS["jobs"]
 WORDS["version 1"] = f"BEGIN; {OLD_TABLES} {TWO_JOBS} {WORDS['version 1']} COMMIT;"
+WORDS["version 1 of the commits"] = f"BEGIN; {OLD_TABLES} {WORDS['version 1 of the commits']} COMMIT;"
 DIGEST_LINE = put_line(b"/a", b"message digest", b"putd", stat=b"A A IGk B A A A A A A A A A A")
 ASKED = b"find *\nmark *\nestimate\ndone\n"
 JOBS = """SELECT JobId, Type, Level, JobStatus, StartTime, VolSessionId, VolSessionTime, Name, FileSet
@@ -202,6 +203,10 @@ class World:
         self.is_new = True
         self.begin("second")
 
+    def do_replace(self, _):
+        self.db = self.db.with_name("other")
+        self.db.touch()
+
     def do_sql(self, text):
         with contextlib.closing(sqlite3.connect(self.db)) as connection:
             try:
@@ -267,6 +272,10 @@ class World:
 
     def do_commit(self, _):
         self.store(COMMITS)
+
+    def do_restore(self, _):
+        lines = self.serve(RESTORE) or []
+        self.show("|".join(lines).replace(" ", "_"))
 
     def do_migrate(self, _):
         status, told, refused = self.run("migrate")

@@ -1,4 +1,4 @@
-ghost use Rattle.std.specs.Prelude.{◌≡◌, ◌==◌, ◌^◌, ◌<◌, ◌≤◌, ◌++◌, ◌∷◌, [], true, not, decimal, position, Ok, IfOk, OnOk};
+ghost use Rattle.std.specs.Prelude.{◌≡◌, ◌==◌, ◌^◌, ◌<◌, ◌≤◌, ◌++◌, ◌∷◌, [], true, not, decimal, Ok, IfOk, OnOk};
 ghost use Rattle.std.specs.List.{before_first, list_all};
 ghost use Rattle.br_model.specs.Answer.{Answers, AnswersAlways};
 ghost use Rattle.br_model.specs.Attribute as model;
@@ -10,7 +10,7 @@ ghost use Rattle.br_attr.specs.Path.{path_or_fault};
 use crate::fault::AttrFault;
 use crate::stat::Stat;
 use br_model::attributes_read_back;
-use br_types::{FileIndex, Path};
+use br_types::{FileIndex, Path, place_of};
 use itoa::Buffer;
 use std::alloc::{AllocError, Global};
 use std::marker::Model;
@@ -18,19 +18,12 @@ use std::marker::Model;
 /// The greatest index and the greatest type: 2^31 - 1.
 const GREATEST: u32 = 2_147_483_647;
 
-/// Returns the place of the first byte `end`, if there is one.
-fn place_of(end: u8, text: &[u8]) -> Option<usize>
-    ensures { result ≡ position (λ c. c == end) text.now }
-{
-    text.iter().position(|byte| *byte == end)
-}
-
 /// Returns the text before the first byte `end`, and the text after it.
 #[tactic(auto, unfolding(br_model::specs::Attribute::field))]
 fn field(end: u8, text: &[u8]) -> Result<(&[u8], &[u8]), AttrFault>
     ensures { AnswersAlways (λ x. (x.0.now, x.1.now)) fault_number result (model.field end text.now) }
 {
-    match place_of(end, text) {
+    match place_of(text, end) {
         None => Err(AttrFault::MissingField),
         Some(i) => Ok((&text[..i], &text[i + 1..])),
     }
@@ -69,7 +62,7 @@ fn before_nul(text: &[u8]) -> &[u8]
     ensures same { result.now ≡ before_first (λ c. c == 0) text.now }
     ensures no_nul { list_all (λ c. not (c == 0)) result.now ≡ true }
 {
-    match place_of(0, text) {
+    match place_of(text, 0) {
         None => text,
         Some(i) => &text[..i],
     }

@@ -3,8 +3,8 @@ ghost use Rattle.br_bsr.specs.Counts as model;
 ghost use Rattle.br_bsr.specs.Counts.{counts};
 
 use crate::keyword::is_word;
-use crate::scan::{cut, first_line, trimmed_of, without_comment};
-use br_types::read_number;
+use crate::scan::{cut, first_line, without_comment};
+use br_types::{read_number, trimmed};
 use std::alloc::{AllocError, Global};
 
 /// Gives the last group this number.
@@ -41,8 +41,8 @@ fn take_in(counts: &mut Vec<Option<u64>>, word: &[u8], value: &[u8]) -> Result<(
 fn take_line(counts: &mut Vec<Option<u64>>, line: &[u8]) -> Result<(), AllocError>
     ensures { OnOk result (counts.new.items ≡ model.with_line counts.old.items line.now) }
 {
-    match cut(trimmed_of(without_comment(line)), b'=') {
-        Some((word, value)) => take_in(counts, trimmed_of(word), trimmed_of(value)),
+    match cut(trimmed(without_comment(line)), b'=') {
+        Some((word, value)) => take_in(counts, trimmed(word), trimmed(value)),
         None => Ok(()),
     }
 }

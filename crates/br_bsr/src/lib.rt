@@ -3,8 +3,8 @@
 //!
 //! A `Bootstrap` is read from its text and written as its canonical text, and its groups say which
 //! records they select. `counts_of` reads the `Count` of each group, the number of files that the
-//! group asks for; reading the bootstrap ignores it. `first_line`, `without_comment`, `cut`
-//! and `trimmed_of` take a text apart as the reader does.
+//! group asks for; reading the bootstrap ignores it. `first_line`, `without_comment`
+//! and `cut` take a text apart as the reader does.
 //!
 //! Any call that returns a `Result` may also fail because memory ran out.
 #![tactic(auto)]
@@ -31,5 +31,5 @@ pub use fault::BsrFault;
 pub use group::{Group, admits_number};
 pub use range::{Range, by_low};
 pub use read::read_bootstrap;
-pub use scan::{cut, first_line, trimmed_of, without_comment};
+pub use scan::{cut, first_line, without_comment};
 pub use write::{push_range, write_bootstrap};

@@ -9,7 +9,8 @@ use crate::criterion::Criterion;
 use crate::fault::LineRefusal;
 use crate::number::digits_of;
 use crate::range::Range;
-use crate::scan::{cut, trimmed_of};
+use crate::scan::cut;
+use br_types::trimmed;
 use std::alloc::Global;
 
 /// Reads one number, or two with a dash between them, as the ends of a range.
@@ -19,12 +20,12 @@ fn ends_of(text: &[u8]) -> Option<(u128, u128)>
 {
     match cut(text, b'-') {
         None => {
-            let low = digits_of(trimmed_of(text))?;
+            let low = digits_of(trimmed(text))?;
             Some((low, low))
         }
         Some((first, second)) => {
-            let low = digits_of(trimmed_of(first))?;
-            let high = digits_of(trimmed_of(second))?;
+            let low = digits_of(trimmed(first))?;
+            let high = digits_of(trimmed(second))?;
             Some((low, high))
         }
     }
@@ -35,7 +36,7 @@ fn ends_of(text: &[u8]) -> Option<(u128, u128)>
 fn range_of(criterion: Criterion, text: &[u8]) -> Option<Range>
     ensures { some_or result 33 ≡ read_item (criterion_of criterion) text.now }
 {
-    let (low, high) = ends_of(trimmed_of(text))?;
+    let (low, high) = ends_of(trimmed(text))?;
     criterion.range(low, high)
 }
 

@@ -1,46 +1,9 @@
-ghost use Rattle.std.specs.Prelude.{◌≡◌, ◌==◌, ◌<◌, ◌∷◌, false, length, count_by, position, MatchOption};
+ghost use Rattle.std.specs.Prelude.{◌≡◌, ◌==◌, ◌<◌, ◌∷◌, false, length, count_by, MatchOption};
 ghost use Rattle.std.specs.Str.Lines.{lines, strip_carriage_return};
-ghost use Rattle.br_model.specs.Text.{is_blank, trim_front};
-ghost use Rattle.br_model.specs.BootstrapText.{trimmed, before_comment, has_closed_quotes};
+ghost use Rattle.br_model.specs.BootstrapText.{before_comment, has_closed_quotes};
 ghost use Rattle.br_bsr.specs.Scan.{AreAround, LacksByte};
 
-use br_types::is_blank_byte;
-use bstr::ByteSlice;
-
-/// Returns the text without the blanks at its beginning.
-fn trimmed_front(text: &[u8]) -> &[u8]
-    ensures { result.now ≡ trim_front is_blank text.now }
-{
-    let mut rest = text;
-    while let [first, following @ ..] = rest {
-        if !is_blank_byte(*first) {
-            break;
-        }
-        rest = following;
-    }
-    rest
-}
-
-/// Returns the text without the blanks at its two ends.
-pub fn trimmed_of(text: &[u8]) -> &[u8]
-    ensures { result.now ≡ trimmed text.now }
-{
-    let mut rest = trimmed_front(text);
-    while let [before @ .., last] = rest {
-        if !is_blank_byte(*last) {
-            break;
-        }
-        rest = before;
-    }
-    rest
-}
-
-/// Returns the place of the first byte `end`, if there is one.
-fn place_of(text: &[u8], end: u8) -> Option<usize>
-    ensures { result ≡ position (λ c. c == end) text.now }
-{
-    text.find_byte(end)
-}
+use br_types::place_of;
 
 /// Returns the text before the first byte `end` and the text after it; `None` if there is no such
 /// byte.

@@ -11,8 +11,8 @@ use crate::fault::LineRefusal;
 use crate::keyword::Keyword;
 use crate::range::Range;
 use crate::range_text::ranges_of;
-use crate::scan::{are_quotes_closed, cut, trimmed_of, without_comment};
-use br_types::{NameFault, VolName};
+use crate::scan::{are_quotes_closed, cut, without_comment};
+use br_types::{NameFault, VolName, trimmed};
 use std::alloc::Global;
 
 /// The greatest number of bytes of a line, without its end.
@@ -85,7 +85,7 @@ fn value_of(alloc: Global, keyword: Keyword, text: &[u8]) -> Result<Statement, L
 fn checked_keyword(has_volume: bool, word: &[u8]) -> Result<Keyword, LineRefusal>
     ensures { AnswersAlways keyword_view refusal_number result (check_keyword has_volume word.now) }
 {
-    let Some(keyword) = Keyword::from_word(trimmed_of(word)) else {
+    let Some(keyword) = Keyword::from_word(trimmed(word)) else {
         return Err(LineRefusal::UnknownKeyword);
     };
     if keyword.is_unsupported() {
@@ -105,7 +105,7 @@ fn assignment_of(alloc: Global, has_volume: bool, text: &[u8]) -> Result<Stateme
     match cut(text, b'=') {
         Some((word, value)) => {
             let keyword = checked_keyword(has_volume, word)?;
-            value_of(alloc, keyword, trimmed_of(value))
+            value_of(alloc, keyword, trimmed(value))
         }
         None => {
             checked_keyword(has_volume, text)?;
@@ -122,7 +122,7 @@ pub fn statement_of(alloc: Global, has_volume: bool, line: &[u8]) -> Result<Stat
     if line.len() > MAX_LINE {
         return Err(LineRefusal::TooLong);
     }
-    let stated = trimmed_of(without_comment(line));
+    let stated = trimmed(without_comment(line));
     if stated.is_empty() {
         return Ok(Statement::Nothing);
     }

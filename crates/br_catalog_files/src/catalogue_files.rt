@@ -1,10 +1,11 @@
 //! Catalogues in files of SQLite.
 
-ghost use Rattle.std.specs.Prelude.{◌≡◌, IfOk};
+ghost use Rattle.std.specs.Prelude.{◌≡◌, IfOk, OnOk};
 ghost use Rattle.sqlite.specs.Files.{over_files};
 ghost use Rattle.sqlite.specs.Steps.{IsFresh};
 ghost use Rattle.sqlite_store.specs.FileStore.{view};
 ghost use Rattle.sqlite_trees.specs.View.{IsClean};
+ghost use Rattle.br_catalog_files.specs.FileCatalogue.{IsClosed, IsOpened};
 ghost use Rattle.br_catalog_rows.specs.Fault.{fault_number};
 ghost use Rattle.br_store.specs.Calls.{IsJustOpened};
 ghost use Rattle.br_store.specs.Look.{look_number};
@@ -43,6 +44,7 @@ fn catalogue_fault(fault: StoreFault) -> CatalogueFault
 /// Opens the catalogue in a database.
 fn opened<S: Alter + Drop>(alloc: Global, conn: Connection<S>) -> Result<Store<S>, StoreFault>
     requires { IsJustOpened S.Store conn }
+    ensures { IfOk result (λ store. IsOpened S.Store store) }
 {
     match Store::open(alloc, conn) {
         Ok(store) => Ok(store),
@@ -51,7 +53,9 @@ fn opened<S: Alter + Drop>(alloc: Global, conn: Connection<S>) -> Result<Store<S
 }
 
 /// Opens the catalogue in a file, or makes one without jobs in a file that is empty or not there.
-fn open(rt: &HostRuntime, db: &str) -> Result<Store<FileStore<File>>, StoreFault> {
+fn open(rt: &HostRuntime, db: &str) -> Result<Store<FileStore<File>>, StoreFault>
+    ensures { IfOk result (λ store. IsOpened over_files store) }
+{
     let conn = open_file(rt, db)?;
     opened(rt.alloc(), conn)
 }
@@ -73,9 +77,14 @@ fn load(rt: &HostRuntime, db: &str) -> Result<History, CatalogueFault> {
 }
 
 /// Writes all that was committed to a catalogue into its file.
-fn close(conn: Connection<FileStore<File>>) -> Result<(), CatalogueFault> {
+fn close(conn: Connection<FileStore<File>>) -> Result<(), CatalogueFault>
+    ensures { OnOk result (IsClosed conn) }
+{
     match fold(conn) {
-        Ok(_files) => Ok(()),
+        Ok(files) => {
+            drop(files);
+            Ok(())
+        }
         Err(fault) => Err(look_fault(fault)),
     }
 }
@@ -144,17 +153,17 @@ impl<'r> CatalogueFiles<'r> {
 }
 
 impl Catalogue for CatalogueFiles<'_> {
-    ghost use Rattle.std.specs.Prelude.{None, ⊤};
+    ghost use Rattle.std.specs.Prelude.{None};
+    ghost use Rattle.sqlite.specs.Files.{over_files};
+    ghost use Rattle.br_catalog_files.specs.FileCatalogue.{IsClosed, IsOpened};
 
     type Jobs = StoredJobs<FileStore<File>>;
 
     ghost jobs_at = { λ _ _. None };
 
-    ghost opens = { λ _ _ _. ⊤ };
+    ghost opens = { λ _ _ jobs. IsOpened over_files jobs };
 
-    ghost closes = { λ _ _. ⊤ };
-
-    ghost migrates = { λ _ _ _. ⊤ };
+    ghost closes = { λ _ jobs. IsClosed jobs };
 
     fn open(&self, db: &str) -> Result<StoredJobs<FileStore<File>>, CatalogueFault> {
         match open(self.rt, db) {
@@ -164,8 +173,7 @@ impl Catalogue for CatalogueFiles<'_> {
     }
 
     fn close(&self, jobs: StoredJobs<FileStore<File>>) -> Result<(), CatalogueFault> {
-        close(jobs.into_store().into_connection())?;
-        Ok(())
+        close(jobs.into_store().into_connection())
     }
 
     fn load(&self, db: &str) -> Result<History, CatalogueFault> {

@@ -4,17 +4,16 @@ ghost use Rattle.std.specs.Prelude.{◌≡◌, length};
 ghost use Rattle.hex.specs.Hex.{encode_lower};
 ghost use Rattle.br_catalog_rows.specs.Decode.{front, rest, high, low};
 
+use bstr::ByteSlice;
+
 /// Returns the number of bytes of a path up to its last slash, with that slash; 0 if it has none.
 fn front_len(path: &[u8]) -> usize
     ensures { result ≡ length (front path.now) }
 {
-    let mut end = 0;
-    for (i, byte) in path.iter().enumerate() {
-        if *byte == b'/' {
-            end = i + 1;
-        }
+    match path.rfind_byte(b'/') {
+        Some(at) => at + 1,
+        None => 0,
     }
-    end
 }
 
 /// Returns the part of a path up to its last slash, with that slash, and the rest.

@@ -1,6 +1,5 @@
 //! The name in the label of a volume.
-ghost use Rattle.std.specs.Prelude.{◌≡◌, ◌⊎◌, ◌++◌, ◌≤◌, ◌==◌, bytes_eq, drop, find, length, OnOk, option_map, take};
-ghost use Rattle.std.specs.List.{position};
+ghost use Rattle.std.specs.Prelude.{◌≡◌, ◌⊎◌, ◌++◌, ◌≤◌, bytes_eq, drop, find, length, OnOk, option_map, take};
 ghost use Rattle.br_check.specs.Label as model;
 ghost use Rattle.br_check.specs.Shown.{shown};
 ghost use Rattle.br_check.specs.Label.{AppendsLabel, LabelsOver, is_label, line_by, named_line, other_line};
@@ -9,7 +8,7 @@ ghost use Rattle.br_volume.specs.declared.fault.DriveFault.TheVariants.{Fault, U
 
 use br_block::{Block, Fragment, Fragments};
 use br_piece::Piece;
-use br_types::{VolName, push_escaped};
+use br_types::{VolName, place_of, push_escaped};
 use br_volume::{Drive, DriveFault};
 use std::alloc::{AllocError, Global};
 
@@ -26,18 +25,11 @@ const NAME_AT: usize = 57;
 /// The number of bytes at the beginning of a volume that contain its label.
 const LABEL_ROOM: u32 = 65_536;
 
-/// Returns the place of the first zero, if there is one.
-fn zero_in(bytes: &[u8]) -> Option<usize>
-    ensures { result ≡ position (λ b. b == 0) bytes.now }
-{
-    bytes.iter().position(|byte| *byte == 0)
-}
-
 /// Returns the bytes before the first zero, or all if there is none.
 fn before_zero(bytes: &[u8]) -> &[u8]
     ensures { result.now ≡ model.before_zero bytes.now }
 {
-    match zero_in(bytes) {
+    match place_of(bytes, 0) {
         Some(at) => &bytes[..at],
         None => bytes,
     }

@@ -40,9 +40,7 @@ fn migrate_file<C: Catalogue>(
     rt: &HostRuntime,
     catalogue: &C,
     db: &str,
-) -> Result<u64, CatalogueFault>
-    ensures jobs { IfOk result (C.migrates catalogue.now db.now) }
-{
+) -> Result<u64, CatalogueFault> {
     // A file that does not exist would be made.
     if fs::metadata(rt, db).is_err() {
         return Err(CatalogueFault::Unreadable);

@@ -3,7 +3,7 @@ ghost use Rattle.br_model.specs.Text.{is_space};
 ghost use Rattle.br_cli_common.specs.RefusalText.{field_text, heading_text, is_break, refusal_text, word_len, wrapped};
 
 use crate::refusal::Refusal;
-use br_types::push_number;
+use br_types::{place_of, push_number};
 use std::alloc::AllocError;
 
 /// The greatest number of columns of a line that ends between two words.
@@ -17,7 +17,7 @@ fn space_in(text: &[u8]) -> Option<usize>
     ensures place { result ≡ position is_space text.now }
     ensures inside { IfSome result (λ at. at < length text.now) }
 {
-    text.iter().position(|byte| *byte == b' ')
+    place_of(text, b' ')
 }
 
 /// Returns the number of bytes before the first space.

@@ -2,7 +2,7 @@ ghost use Rattle.std.specs.Prelude.{◌≡◌};
 ghost use Rattle.std.specs.Io.BufRead.{strip_last};
 ghost use Rattle.br_cli_console.specs.LocalCommands.{asked_by, asked_of};
 
-use br_mark::trimmed;
+use br_types::trimmed;
 
 /// What a line asks for.
 #[derive(Clone, Copy)]

@@ -51,9 +51,6 @@ pub trait Catalogue {
     /// The relation that holds once all jobs of an open catalogue are in its file.
     ghost closes: { Self → Self.Jobs → Type 0 };
 
-    /// The possible numbers of jobs of a catalogue at a path that is migrated.
-    ghost migrates: { Self → List ℕ → ℕ → Type 0 };
-
     /// Opens the catalogue at the path, or makes one without jobs if there is none.
     fn open(&self, db: &str) -> Result<Self::Jobs, CatalogueFault>
         ensures opened { IfOk result (opens self.now db.now) };
@@ -67,6 +64,5 @@ pub trait Catalogue {
         ensures loaded { IfOk result (λ history. AreJobs (jobs_at self.now db.now) history) };
 
     /// Migrates the catalogue at the path from version 1 to 2. Returns the number of its jobs.
-    fn migrate(&self, db: &str) -> Result<u64, CatalogueFault>
-        ensures migrated { IfOk result (migrates self.now db.now) };
+    fn migrate(&self, db: &str) -> Result<u64, CatalogueFault>;
 }

@@ -1,5 +1,3 @@
-pub mod BlankLaws
-pub mod TrimLaws
 pub mod WayLaws
 pub mod MarkLaws
 pub mod ShowLaws

@@ -3,4 +3,3 @@ pub mod Argument
 pub mod Fault
 pub mod Said
 pub mod Seen
-pub mod Trim

@@ -1,15 +1,14 @@
 ghost use Rattle.std.specs.Prelude.{◌≡◌, IfOk, position};
 ghost use Rattle.std.specs.List.{before_first, after_first};
 ghost use Rattle.br_model.specs.Answer.{Answers, AnswersAlways};
-ghost use Rattle.br_model.specs.Text.{is_blank, trim_by};
+ghost use Rattle.br_model.specs.Text.{is_blank};
 ghost use Rattle.br_model.specs.Console as model;
 ghost use Rattle.br_mark.specs.Argument.{needed_text, wanted_text};
 ghost use Rattle.br_mark.specs.Fault.{cause, fault_number};
 ghost use Rattle.br_mark.specs.Said.{said, text_of};
-ghost use Rattle.br_mark.specs.Trim.{trimmed_front, trimmed_end};
 
 use crate::fault::MarkFault;
-use br_types::is_blank_byte;
+use br_types::trimmed;
 use bstr::ByteSlice;
 use std::alloc::{AllocError, Global};
 
@@ -48,38 +47,6 @@ pub enum Command {
     Done,
     /// Ends the dialogue without them.
     Quit,
-}
-
-/// Returns the text without the blanks at its beginning.
-fn without_front(text: &[u8]) -> &[u8]
-    ensures { result.now ≡ trimmed_front text.now }
-{
-    match text.find_not_byteset(BLANKS) {
-        Some(first) => &text[first..],
-        None => &[],
-    }
-}
-
-/// Returns the text without the blanks at its end.
-fn without_end(text: &[u8]) -> &[u8]
-    ensures { result.now ≡ trimmed_end text.now }
-{
-    let mut left = text;
-    while let Some((last, front)) = left.split_last() {
-        if !is_blank_byte(*last) {
-            return left;
-        }
-        left = front;
-    }
-    left
-}
-
-/// Returns the text without the blanks at its ends.
-#[tactic(auto, unfolding(br_model::specs::Text::trim_by))]
-pub fn trimmed(text: &[u8]) -> &[u8]
-    ensures { result.now ≡ trim_by is_blank text.now }
-{
-    without_end(without_front(text))
 }
 
 /// Returns the place of the first blank.

@@ -15,6 +15,6 @@ mod shows;
 mod working_folder;
 
 pub use answer::Answer;
-pub use command::{Command, trimmed};
+pub use command::Command;
 pub use console::Console;
 pub use fault::MarkFault;

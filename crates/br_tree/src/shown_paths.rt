@@ -6,7 +6,7 @@ ghost use Rattle.br_model.specs.Name.{is_slash};
 ghost use Rattle.br_tree.specs.Walk.{first_part, seen_paths, IsRun, AllPassing, NonePassing, AreSorted};
 
 use crate::cut::{Test, cut};
-use br_types::Path;
+use br_types::{Path, place_of};
 use br_view::Entry;
 
 /// A path of a view beside its newest copy.
@@ -17,7 +17,7 @@ pub(crate) fn slash_in(text: &[u8]) -> Option<usize>
     ensures place { result ≡ position is_slash text.now }
     ensures bound { IfSome result (λ place. place < length text.now) }
 {
-    text.iter().position(|byte| *byte == b'/')
+    place_of(text, b'/')
 }
 
 /// Returns a text up to its first `/`.

@@ -9,3 +9,5 @@ pub mod PathConflictLaws
 mod NewestExamples
 pub mod NewestLaws
 pub mod PlannedLaws
+pub mod BlankLaws
+pub mod TrimLaws

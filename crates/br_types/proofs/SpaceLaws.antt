@@ -1,22 +1,32 @@
--- The first space of a text.
-use Rattle.std.proofs.Common.{◌≡◌, ◌∙◌, ℕ, cond, List, length, Option, Some, None, refl, sym, arith}
-use Rattle.std.specs.Prelude.{nat_lt, position}
+-- The first byte of a kind, and the first space of a text.
+use Rattle.std.proofs.Common.{◌≡◌, ◌∙◌, ◌==◌, ℕ, cond, List, length, Option, Some, None, refl, sym, arith}
+use Rattle.std.specs.Prelude.{◌<◌, IfSome, nat_lt, position}
 use Rattle.std.specs.List.{position_or_len}
 use Rattle.std.proofs.lemmas.Bool.{le-ltb, lt-ltb, false_from_ne_true}
 use Rattle.std.proofs.lemmas.List.Sums.{position_or_len_is}
 use Rattle.bstr.specs.Find.{IsFirstByte, is_byte}
 use Rattle.br_model.specs.Text.{is_space}
 
-placed : (text : List ℕ) (k : ℕ) → position_or_len is_space text ≡ k → position is_space text ≡ cond (nat_lt k (length text)) (Some k) None
-placed text k e = rw e refl
+placed : (end : ℕ) (text : List ℕ) (k : ℕ) → position_or_len (λ c. c == end) text ≡ k
+    → position (λ c. c == end) text ≡ cond (nat_lt k (length text)) (Some k) None
+placed end text k e = rw e refl
 
 -- what `find_byte` finds
+pub first_place : (end : ℕ) (text : List ℕ) (r : Option ℕ) → IsFirstByte (is_byte end) text r → r ≡ position (λ c. c == end) text
+first_place end text None never =
+    let here : position_or_len (λ c. c == end) text ≡ length text =
+    position_or_len_is (λ c. c == end) text (length text) 0 (omega arith) (λ k less. false_from_ne_true _ (never k (omega arith) less)) (λ less. absurd (omega (arith, less))) in
+    sym (placed end text (length text) here ∙ rw (le-ltb (length text) (length text) (omega arith)) refl)
+first_place end text (Some k) found =
+    let here : position_or_len (λ c. c == end) text ≡ k =
+    position_or_len_is (λ c. c == end) text k 0 (omega (arith, found.0.high)) (λ j less. false_from_ne_true _ (found.0.before j (omega arith) less)) (λ less. found.1) in
+    sym (placed end text k here ∙ rw (lt-ltb k (length text) found.0.high) refl)
+
+-- it is inside of the text
+pub first_within : (end : ℕ) (text : List ℕ) (r : Option ℕ) → IsFirstByte (is_byte end) text r → IfSome r (λ k. k < length text)
+first_within end text None never = tt
+first_within end text (Some k) found = found.0.high
+
+-- the first space that `find_byte` finds
 pub first_space : (text : List ℕ) (r : Option ℕ) → IsFirstByte (is_byte 32) text r → r ≡ position is_space text
-first_space text None never =
-    let here : position_or_len is_space text ≡ length text =
-    position_or_len_is is_space text (length text) 0 (omega arith) (λ k less. false_from_ne_true _ (never k (omega arith) less)) (λ less. absurd (omega (arith, less))) in
-    sym (placed text (length text) here ∙ rw (le-ltb (length text) (length text) (omega arith)) refl)
-first_space text (Some k) found =
-    let here : position_or_len is_space text ≡ k =
-    position_or_len_is is_space text k 0 (omega (arith, found.0.high)) (λ j less. false_from_ne_true _ (found.0.before j (omega arith) less)) (λ less. found.1) in
-    sym (placed text k here ∙ rw (lt-ltb k (length text) found.0.high) refl)
+first_space text r found = first_place 32 text r found

@@ -10,11 +10,6 @@ pairs_read [] = Some []
 pairs_read (last ∷ []) = None
 pairs_read (high ∷ low ∷ text) = in_front (byte_of (digit_value high) (digit_value low)) (pairs_read text)
 
--- what is read at a text's front: nothing if it is empty, else the first byte that it spells
--- and the rest
-abbrev pub ReadsByte : List ℕ → Option (ℕ × Bor (List ℕ)) → Type 0
-ReadsByte text first = MatchOption first (text ≡ []) (λ p. pairs_read text ≡ in_front (Some p.0) (pairs_read p.1.now))
-
 -- the bytes that a text spells: `-` is none, and else they are pairs of digits, at least one
 unfoldable pub bytes_spelled : List ℕ → Option (List ℕ)
 bytes_spelled text = if bytes_eq text (45 ∷ []) then Some [] else if is_empty text then None else pairs_read text

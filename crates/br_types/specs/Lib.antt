@@ -6,3 +6,4 @@ pub mod LineFault
 pub mod DecimalField
 pub mod Conflicts
 pub mod Newest
+pub mod Trim

@@ -4,6 +4,8 @@ use Rattle.br_types.specs.declared.fault.EscapeFault.{EscapeFault}
 use Rattle.br_types.specs.declared.fault.EscapeFault.TheVariants as escapes
 use Rattle.br_types.specs.declared.fault.NameFault.{NameFault}
 use Rattle.br_types.specs.declared.fault.NameFault.TheVariants as names
+use Rattle.hex.specs.declared.error.FromHexError.{FromHexError}
+use Rattle.hex.specs.declared.error.FromHexError.TheVariants as digits
 use Rattle.br_types.specs.declared.line_fault.LineFault.{LineFault}
 use Rattle.br_types.specs.declared.line_fault.LineFault.TheVariants.{Memory, BadScript}
 
@@ -22,3 +24,10 @@ of_name_fault names.BadPath = BadScript
 abbrev pub of_escape_fault : EscapeFault → LineFault
 of_escape_fault escapes.Memory = Memory
 of_escape_fault escapes.BadEscape = BadScript
+
+-- the refusal of a line for refused digits
+abbrev pub of_hex_fault : FromHexError → LineFault
+of_hex_fault digits.OutOfMemory = Memory
+of_hex_fault digits.OddLength = BadScript
+of_hex_fault digits.InvalidStringLength = BadScript
+of_hex_fault (digits.InvalidHexCharacter c i) = BadScript

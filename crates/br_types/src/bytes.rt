@@ -1,14 +1,24 @@
-ghost use Rattle.std.specs.Prelude.{◌≡◌, ◌==◌, not};
+ghost use Rattle.std.specs.Prelude.{◌≡◌, ◌==◌, ◌<◌, IfSome, length, not, position};
 ghost use Rattle.std.specs.Char.{is_ascii_digit};
 ghost use Rattle.std.specs.List.{list_all};
 ghost use Rattle.br_model.specs.Name.{is_directory};
 ghost use Rattle.br_model.specs.Text.{is_blank};
 
+use bstr::ByteSlice;
+
 /// Returns whether a byte is a blank: a space or a tab.
-pub fn is_blank_byte(byte: u8) -> bool
+pub(crate) fn is_blank_byte(byte: u8) -> bool
     ensures { result ≡ is_blank byte }
 {
     byte == b' ' || byte == b'\t'
+}
+
+/// Returns the place of the first byte that is this one, if there is one.
+pub fn place_of(text: &[u8], byte: u8) -> Option<usize>
+    ensures place { result ≡ position (λ c. c == byte) text.now }
+    ensures inside { IfSome result (λ at. at < length text.now) }
+{
+    text.find_byte(byte)
 }
 
 /// Returns whether a text has no NUL.

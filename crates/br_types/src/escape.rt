@@ -1,28 +1,17 @@
 ghost use Rattle.std.specs.Prelude.{◌≡◌, ◌<◌, ◌++◌, [], length, take, Some, None, MatchOption, IfOk, IfErr, IfSome, OnOk, OnErr};
 ghost use Rattle.br_model.specs.Answer.{Answers, some_or};
-ghost use Rattle.br_model.specs.Text.{escaped, escaped_byte, hex_digit, hexadecimal};
-ghost use Rattle.br_types.specs.Escape.{EscapedReadsBack, byte_of, digit_value, escape_cause, in_front, unescaped};
+ghost use Rattle.br_model.specs.Text.{escaped, escaped_byte};
+ghost use Rattle.br_types.specs.Escape.{EscapedReadsBack, escape_cause, in_front, unescaped};
 ghost use Rattle.br_types.specs.declared.fault.EscapeFault.TheVariants.{BadEscape};
 
 use crate::fault::EscapeFault;
+use crate::hexadecimal::{byte_by, digits_of};
 use std::alloc::{AllocError, Global};
 
 /// States the law that escaped bytes are read back.
 pub fn escaped_reads_back()
     ensures { EscapedReadsBack }
 {}
-
-/// Returns the hexadecimal digit for 0 to 15, in lower case.
-fn digit_for(value: u8) -> u8
-    requires { value < 16 }
-    ensures { result ≡ hex_digit value }
-{
-    if value < 10 {
-        b'0' + value
-    } else {
-        b'a' + (value - 10)
-    }
-}
 
 #[tactic(auto, unfolding(br_model::specs::Text::hexadecimal))]
 fn push_escaped_byte(text: &mut Vec<u8>, byte: u8) -> Result<(), AllocError>
@@ -32,20 +21,10 @@ fn push_escaped_byte(text: &mut Vec<u8>, byte: u8) -> Result<(), AllocError>
     if b'!' <= byte && byte <= b'~' && byte != b'\\' {
         text.extend_from_slice(&[byte])
     } else {
-        let escape = [b'\\', b'x', digit_for(byte / 16), digit_for(byte % 16)];
+        let (high, low) = digits_of(byte);
+        let escape = [b'\\', b'x', high, low];
         text.extend_from_slice(&escape)
     }
-}
-
-/// Appends bytes as two hexadecimal digits each, in lower case.
-#[tactic(auto, unfolding(br_model::specs::Text::hexadecimal))]
-pub fn push_hexadecimal(text: &mut Vec<u8>, bytes: &[u8]) -> Result<(), AllocError>
-    ensures { OnOk result (text.new.items ≡ text.old.items ++ hexadecimal bytes.now) }
-{
-    for byte in bytes {
-        text.extend_from_slice(&[digit_for(*byte / 16), digit_for(*byte % 16)])?;
-    }
-    Ok(())
 }
 
 /// Appends a name or a path as it is printed: each byte from `!` to `~` other than `\` as it is,
@@ -62,27 +41,6 @@ pub fn push_escaped(text: &mut Vec<u8>, name: &[u8]) -> Result<(), AllocError>
         push_escaped_byte(text, *byte)?;
     }
     Ok(())
-}
-
-/// Returns the value of a hexadecimal digit in lower case.
-#[tactic(auto, unfolding(crate::specs::Escape::digit_value))]
-fn value_of(digit: u8) -> Option<u8>
-    ensures value { result ≡ digit_value digit }
-    ensures small { IfSome result (λ n. n < 16) }
-{
-    match digit {
-        b'0'..=b'9' => Some(digit - b'0'),
-        b'a'..=b'f' => Some(digit - b'a' + 10),
-        _ => None,
-    }
-}
-
-/// Returns the byte that two hexadecimal digits in lower case spell; `None` if one is not a digit.
-#[tactic(auto, unfolding(crate::specs::Escape::byte_of))]
-pub fn byte_by(high: u8, low: u8) -> Option<u8>
-    ensures { result ≡ byte_of (digit_value high) (digit_value low) }
-{
-    Some(16 * value_of(high)? + value_of(low)?)
 }
 
 /// Reads the first byte of an escaped text. Returns it and the rest; `None` if the text is empty.

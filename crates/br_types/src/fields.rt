@@ -1,13 +1,13 @@
-ghost use Rattle.std.specs.Prelude.{◌≡◌, ◌<◌, length, None, IfSome, IfOk, IfErr, position};
+ghost use Rattle.std.specs.Prelude.{◌≡◌, position};
 ghost use Rattle.br_model.specs.Answer.{Answers, some_or};
 ghost use Rattle.br_model.specs.Text.{is_space};
-ghost use Rattle.br_types.specs.LineFault.{line_cause};
-ghost use Rattle.br_types.specs.DecimalSpelling.{IsCut, ReadsByte, bytes_spelled, pairs_read};
-ghost use Rattle.br_types.specs.declared.line_fault.LineFault.TheVariants.{BadScript};
+ghost use Rattle.br_types.specs.LineFault.{line_cause, of_hex_fault};
+ghost use Rattle.br_types.specs.DecimalSpelling.{IsCut, bytes_spelled, pairs_read};
 
-use crate::escape::byte_by;
+use crate::hexadecimal::has_capital;
 use crate::line_fault::LineFault;
 use bstr::ByteSlice;
+use hex::FromHexError;
 use std::alloc::Global;
 
 /// Returns the place of the first space.
@@ -28,24 +28,13 @@ pub fn cut(text: &[u8]) -> (&[u8], Option<&[u8]>)
     }
 }
 
-/// Reads the byte that the first two digits of a text spell. Returns it and the rest; `None` if the text is empty.
-///
-/// # Errors
-///
-/// `BadScript` if the text has one byte, or one of its first two is not a hexadecimal digit in lower case.
-#[tactic(auto, unfolding(crate::specs::DecimalSpelling::pairs_read, crate::specs::Escape::in_front))]
-fn first_byte(text: &[u8]) -> Result<Option<(u8, &[u8])>, LineFault>
-    ensures read { IfOk result (ReadsByte text.now) }
-    ensures shorter { IfOk result (λ first. IfSome first (λ p. length p.1.now < length text.now)) }
-    ensures bad { IfErr result (λ e. (e ≡ BadScript) × (pairs_read text.now ≡ None)) }
+/// Returns the refusal of a field whose digits were refused.
+fn refused_by(fault: FromHexError) -> LineFault
+    ensures { result ≡ of_hex_fault fault }
 {
-    match text {
-        [] => Ok(None),
-        [_] => Err(LineFault::BadScript),
-        [high, low, rest @ ..] => {
-            let byte = byte_by(*high, *low).ok_or(LineFault::BadScript)?;
-            Ok(Some((byte, rest)))
-        }
+    match fault {
+        FromHexError::OutOfMemory => LineFault::Memory,
+        _ => LineFault::BadScript,
     }
 }
 
@@ -53,13 +42,13 @@ fn first_byte(text: &[u8]) -> Result<Option<(u8, &[u8])>, LineFault>
 fn read_pairs(alloc: Global, text: &[u8]) -> Result<Vec<u8>, LineFault>
     ensures { Answers (λ bytes. bytes.items) line_cause result (some_or (pairs_read text.now) tt) }
 {
-    let mut bytes = Vec::new(alloc);
-    let mut left = text;
-    while let Some((byte, rest)) = first_byte(left)? {
-        bytes.extend_from_slice(&[byte])?;
-        left = rest;
+    if has_capital(text) {
+        return Err(LineFault::BadScript);
     }
-    Ok(bytes)
+    match hex::decode(alloc, text) {
+        Ok(bytes) => Ok(bytes),
+        Err(fault) => Err(refused_by(fault)),
+    }
 }
 
 /// Reads the bytes that a field spells: `-` is no bytes, else pairs of hexadecimal digits in lower case, at least one.

@@ -16,6 +16,7 @@
 //! Any call that returns a `Result` may also fail because memory ran out.
 #![tactic(auto)]
 
+mod blanks;
 mod bytes;
 mod conflicts;
 mod decimal;
@@ -23,6 +24,7 @@ mod decimal_field;
 mod escape;
 mod fault;
 mod fields;
+mod hexadecimal;
 mod key;
 mod line_fault;
 mod name;
@@ -33,13 +35,15 @@ mod number;
 mod path;
 mod wanted;
 
-pub use bytes::{are_digits, has_no_nul, is_blank_byte, is_directory_path};
+pub use blanks::trimmed;
+pub use bytes::{are_digits, has_no_nul, is_directory_path, place_of};
 pub use conflicts::{Ways, add_folders, add_path, is_next};
 pub use decimal::{push_number, push_wide};
 pub use decimal_field::read_number;
-pub use escape::{byte_by, escaped_reads_back, push_escaped, push_hexadecimal, unescape};
+pub use escape::{escaped_reads_back, push_escaped, unescape};
 pub use fault::{EscapeFault, NameFault};
 pub use fields::{cut, read_bytes};
+pub use hexadecimal::{byte_by, push_hexadecimal};
 pub use key::{FileKey, SessionKey};
 pub use line_fault::LineFault;
 pub use name::{Name, VolName};

@@ -11,7 +11,7 @@ rest_falls text i below = grind (arith, common_steps)
 
 pub returns-in-Some : goal.returns-in-Some
 returns-in-Some c =
-    let found = place_found (λ b. b == c.args.end) c.args.text.now c.in-Some.i (sym c.in-Some.ensures) in (
+    let found = place_found (λ b. b == c.args.end) c.args.text.now c.in-Some.i (sym c.in-Some.ensures.place) in (
       found.any,
       ap (λ n. take n c.args.text.now) (sym found.place),
       rest_is c.args.text.now c.in-Some.i _ found.within found.place,
@@ -19,4 +19,4 @@ returns-in-Some c =
     )
 
 pub returns-in-None : goal.returns-in-None
-returns-in-None c = place_none (λ b. b == c.args.end) c.args.text.now (sym c.in-None.ensures)
+returns-in-None c = place_none (λ b. b == c.args.end) c.args.text.now (sym c.in-None.ensures.place)

@@ -1,4 +1,4 @@
-use Rattle.br_mark.proofs.BlankLaws.{first_blank}
+use Rattle.br_types.proofs.BlankLaws.{first_blank}
 use Rattle.br_mark.proofs.command.blank_in.Goals as goal
 
 pub returns : goal.returns

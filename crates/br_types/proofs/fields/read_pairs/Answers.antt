@@ -1,17 +1,15 @@
-use Rattle.std.proofs.Common.{rules, ◌≡◌, [], Some, ap}
+use Rattle.std.proofs.Common.{ap, sym, ◌∙◌}
 use Rattle.br_model.specs.Answer.{some_or}
-use Rattle.br_types.specs.Escape.{in_front}
-use Rattle.br_types.specs.DecimalSpelling.{pairs_read}
-use Rattle.br_types.proofs.SpellingLaws.{read_more, read_all}
+use Rattle.br_types.proofs.SpellingLaws.{capital_spells_nothing, refused_digits, spelled}
 use Rattle.br_types.proofs.fields.read_pairs.Goals as goal
 
-pub loop-bytes-preserved : goal.loop-bytes-preserved
-loop-bytes-preserved c =
-    let first : pairs_read c.loop-bytes.left.now ≡ in_front (Some c.in-Some.byte) (pairs_read c.in-Some.rest.now) = search rules in
-    read_more c.args.text.now c.loop-bytes.left.now c.in-Some.rest.now c.loop-bytes.bytes.items c.extend_from_slice.new.self.items c.in-Some.byte
-    c.loop-bytes.invariant first c.in_ok-extend_from_slice.ensures.items
+pub returns-then-has_capital : goal.returns-then-has_capital
+returns-then-has_capital c = ap (λ o. some_or o tt) (capital_spells_nothing c.args.text.now (sym c.has_capital.ensures ∙ c.if-has_capital.true))
 
-pub returns : goal.returns
-returns c =
-    let none : c.loop-bytes.left.now ≡ [] = search rules in
-    ap (λ o. some_or o tt) (read_all c.args.text.now c.loop-bytes.left.now c.loop-bytes.bytes.items c.loop-bytes.invariant none)
+pub returns-in-Ok : goal.returns-in-Ok
+returns-in-Ok c =
+    ap (λ o. some_or o tt) (spelled c.args.text.now c.in-Ok.bytes.items (sym c.has_capital.ensures ∙ c.if-has_capital.false) c.in-Ok.ensures.ok)
+
+pub returns-in-Err : goal.returns-in-Err
+returns-in-Err c =
+    rw c.refused_by.ensures (refused_digits c.args.text.now c.in-Err.fault (sym c.has_capital.ensures ∙ c.if-has_capital.false) c.in-Err.ensures.err)

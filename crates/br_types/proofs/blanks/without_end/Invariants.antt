@@ -1,6 +1,6 @@
 use Rattle.std.proofs.Common.{◌≡◌, length}
-use Rattle.br_mark.specs.Trim.{trimmed_end}
-use Rattle.br_mark.proofs.command.without_end.Given as goal
+use Rattle.br_types.specs.Trim.{trimmed_end}
+use Rattle.br_types.proofs.blanks.without_end.Given as goal
 
 abbrev pub invariant-loop-last : goal.invariant-loop-last
 invariant-loop-last l = trimmed_end l.left ≡ trimmed_end l.text

@@ -3,7 +3,7 @@ use Rattle.std.proofs.Common.{◌≡◌, ℕ, true, false, List, [], ◌∷◌, 
 use Rattle.std.proofs.lemmas.List.{reverse-append, reverse-reverse}
 use Rattle.std.specs.List.{prefix_len}
 use Rattle.br_model.specs.Text.{is_blank, trim_front}
-use Rattle.br_mark.specs.Trim.{trimmed_front, trimmed_end}
+use Rattle.br_types.specs.Trim.{trimmed_front, trimmed_end}
 
 pub front_more : (x : ℕ) (xs : List ℕ) → is_blank x ≡ true → trimmed_front (x ∷ xs) ≡ trimmed_front xs
 unfolding trim_front

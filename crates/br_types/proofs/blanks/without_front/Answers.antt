@@ -1,6 +1,6 @@
 use Rattle.std.proofs.Common.{sym, ◌∙◌}
-use Rattle.br_mark.proofs.BlankLaws.{front_found, front_missing}
-use Rattle.br_mark.proofs.command.without_front.Goals as goal
+use Rattle.br_types.proofs.BlankLaws.{front_found, front_missing}
+use Rattle.br_types.proofs.blanks.without_front.Goals as goal
 
 pub returns-in-Some : goal.returns-in-Some
 returns-in-Some c = sym (front_found c.args.text.now c.in-Some.first c.in-Some.ensures)

@@ -1,7 +1,7 @@
 use Rattle.std.proofs.Common.{ap, sym, ◌∙◌}
-use Rattle.br_mark.specs.Trim.{trimmed_end}
-use Rattle.br_mark.proofs.TrimLaws.{end_more, end_stays, end_of_nothing, nothing}
-use Rattle.br_mark.proofs.command.without_end.Goals as goal
+use Rattle.br_types.specs.Trim.{trimmed_end}
+use Rattle.br_types.proofs.TrimLaws.{end_more, end_stays, end_of_nothing, nothing}
+use Rattle.br_types.proofs.blanks.without_end.Goals as goal
 
 pub returns-then-not-is_blank_byte : goal.returns-then-not-is_blank_byte
 returns-then-not-is_blank_byte c =
