@@ -72,12 +72,16 @@ UNREAD = {
     "a column with a default",
     "auto_vacuum",
     "auto_vacuum in steps",
+    "a trigger",
     "a trigger on a view",
+    "an index of some rows",
+    "an index of an expression",
     "a view that numbers rows",
     "a default for rows that were there",
     "a row that points to no job",
     "a virtual table",
     "texts of two bytes a letter",
+    "WITHOUT ROWID",
 }
 # What somebody added to a catalogue of version 1 that `migrate` does not take, and how it is removed again.
 OLD_ADDITIONS = {
