@@ -1,5 +1,5 @@
 -- Files that are made once more of the hits that made them.
-use Rattle.std.proofs.Common.{◌≡◌, ◌<◌, ◌+◌, ℕ, Bool, true, false, List, [], ◌∷◌, ◌++◌, length, map, take, drop, get_or, Option, Some, None, Ok, Err, IfOk, refl, ap, subst, arith, ◌∙◌, length-append}
+use Rattle.std.proofs.Common.{◌≡◌, ◌<◌, ◌+◌, ℕ, Bool, true, false, List, [], ◌∷◌, ◌++◌, length, map, take, drop, get_or, Option, Some, None, Result, Ok, Err, IfOk, OnErr, refl, ap, subst, arith, ◌∙◌, length-append}
 use Rattle.std.specs.Prelude.{not, bytes_eq}
 use Rattle.std.specs.List.{AllByRecursion, AllZip}
 use Rattle.br_model.specs.Answer.{◌>>=◌, refuse_if}
@@ -47,6 +47,11 @@ pub all_made : (hits : List Hit) (names : Option Names) → AllByRecursion (IsMa
 unfolding files_listed files_found files_planned
 all_made hits None = all_found hits _
 all_made hits (Some names) = all_planned hits _
+
+-- what follows for a call that was refused
+pub changed_on_err : {A E : Type 0} (r : Result A E) (fault : E) (P : Type 0) → r ≡ Err fault → OnErr r P → P
+changed_on_err (Ok x) fault P is claim = absurd cc
+changed_on_err (Err e) fault P is claim = claim
 
 -- ---- files that are like others
 

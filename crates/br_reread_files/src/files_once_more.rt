@@ -2,6 +2,7 @@
 ghost use Rattle.std.specs.Prelude.{◌≡◌, ◌<◌, ◌∷◌, ◌++◌, [], length, Ok, Err, IfOk, OnErr, OnOk};
 ghost use Rattle.std.specs.List.{AllZip};
 ghost use Rattle.br_data.specs.declared.reread_fault.AgainFault.TheVariants.{Changed, Failed};
+ghost use Rattle.br_join.specs.Outcome.{shown};
 ghost use Rattle.br_records.specs.Runs.{AreListed};
 ghost use Rattle.br_data.specs.ManyDrives.{GoOn, HaveFailed};
 ghost use Rattle.br_sink.specs.Delivery.{items_in};
@@ -17,6 +18,26 @@ use br_records::around;
 use br_types::FileKey;
 use br_volume::Drive;
 use std::alloc::{AllocError, Global};
+
+/// Returns the file of an outcome, if it is like this one.
+///
+/// # Errors
+///
+/// `Changed` if it is not, or if the outcome is a fault.
+fn file_like(outcome: Outcome, item: &Item) -> Result<Item, AgainFault>
+    ensures like { IfOk result (λ made. IsLike made item.now) }
+    ensures same { IfOk result (λ made. shown outcome ≡ Ok made) }
+    ensures changed { OnErr result (shown outcome ≡ Ok item.now → ⊥) }
+    ensures never { result ≡ Err Failed → ⊥ }
+{
+    let Outcome::File(made) = outcome else {
+        return Err(AgainFault::Changed);
+    };
+    if is_like(&made, item) {
+        return Ok(made);
+    }
+    Err(AgainFault::Changed)
+}
 
 /// Makes a file once more, from the hits with its key.
 ///
@@ -38,10 +59,8 @@ pub(crate) fn item_once_more<D: Drive>(
     ensures failed { result ≡ Err Failed → HaveFailed many.old many.new }
 {
     let (_, run, _) = around(hits, key);
-    match outcome_by(alloc, many, key, run)? {
-        Outcome::File(made) if is_like(&made, item) => Ok(made),
-        _ => Err(AgainFault::Changed),
-    }
+    let outcome = outcome_by(alloc, many, key, run)?;
+    file_like(outcome, item)
 }
 
 /// Appends a file.

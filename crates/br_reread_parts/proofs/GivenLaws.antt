@@ -1,11 +1,11 @@
 -- What holds of each hit of a list.
-use Rattle.std.proofs.Common.{◌≡◌, ℕ, ◌<◌, List, [], ◌∷◌, ◌++◌, length, get_or, sym, subst, arith}
+use Rattle.std.proofs.Common.{◌≡◌, ℕ, ◌<◌, List, [], ◌∷◌, ◌++◌, length, get_or, refl, sym, subst, arith}
 use Rattle.std.specs.List.{All, AllByRecursion, AllZip}
 use Rattle.std.proofs.lemmas.List.Elements.{All-from_recursion, All-get_or}
 use Rattle.br_model.specs.Meaning.{Hit}
 use Rattle.br_data.specs.StandingHits.{StandingStays}
-use Rattle.br_data.specs.ManyDrives.{Driven, GoesOn, GoOn, HaveFailed, RereadingMany}
-use Rattle.br_data.proofs.GoOnLaws.{given_on}
+use Rattle.br_data.specs.ManyDrives.{Driven, GoesOn, GoOn, RereadingMany}
+use Rattle.br_data.proofs.GoOnLaws.{failed_on, given_on}
 use Rattle.br_reread_parts.specs.Given.{GivesHits}
 
 -- what holds of each, holds of each
@@ -31,14 +31,16 @@ pub hits_kept : StandingStays → (a b : RereadingMany) (hits : List Hit) → Go
 hits_kept stays a b [] on given = tt
 hits_kept stays a b (h ∷ hs) on given = (given_on stays a b h.spot h.fragment.bytes on given.0, hits_kept stays a b hs on given.1)
 
-all_fail_then : (xs ys zs : List Driven) → AllZip (λ (x y : Driven). x.failures < y.failures) xs ys → AllZip GoesOn ys zs → AllZip (λ (x y : Driven). x.failures < y.failures) xs zs
-all_fail_then [] [] [] p q = tt
-all_fail_then [] [] (z ∷ zs) p q = absurd q
-all_fail_then [] (y ∷ ys) zs p q = absurd p
-all_fail_then (x ∷ xs) [] zs p q = absurd p
-all_fail_then (x ∷ xs) (y ∷ ys) [] p q = absurd q
-all_fail_then (x ∷ xs) (y ∷ ys) (z ∷ zs) p q = (omega (arith, p.0, q.0.1), all_fail_then xs ys zs p.1 q.1)
+-- drives that went on, and failed then
+pub fail_after : (xs ys zs : List Driven) → AllZip GoesOn xs ys → AllZip (λ (x y : Driven). x.failures < y.failures) ys zs → AllZip (λ (x y : Driven). x.failures < y.failures) xs zs
+fail_after xs ys zs on failed =
+    failed_on (record { drives = xs; groups = [] }) (record { drives = ys; groups = [] }) (record { drives = zs; groups = [] }) (refl, on) failed
 
--- drives that failed have failed after more calls
-pub failed_then : (a b c : RereadingMany) → HaveFailed a b → GoOn b c → HaveFailed a c
-failed_then a b c p q = all_fail_then a.drives b.drives c.drives p q.1
+-- drives that failed, and went on then
+pub fail_then : (xs ys zs : List Driven) → AllZip (λ (x y : Driven). x.failures < y.failures) xs ys → AllZip GoesOn ys zs → AllZip (λ (x y : Driven). x.failures < y.failures) xs zs
+fail_then [] [] [] p q = tt
+fail_then [] [] (z ∷ zs) p q = absurd q
+fail_then [] (y ∷ ys) zs p q = absurd p
+fail_then (x ∷ xs) [] zs p q = absurd p
+fail_then (x ∷ xs) (y ∷ ys) [] p q = absurd q
+fail_then (x ∷ xs) (y ∷ ys) (z ∷ zs) p q = (omega (arith, p.0, q.0.1), fail_then xs ys zs p.1 q.1)

@@ -175,7 +175,7 @@ fn put_both_beside<D: Drive, W: Write>(
 /// # Errors
 ///
 /// As `put_both_beside`.
-#[tactic(auto, using(br_data::proofs::GoOnLaws::go_itself, br_data::proofs::GoOnLaws::go_more, br_data::proofs::GoOnLaws::failed_on))]
+#[tactic(auto, using(br_data::proofs::GoOnLaws::go_itself, br_data::proofs::GoOnLaws::go_more))]
 fn put_while_both<D: Drive, W: Write>(
     rt: &impl Threads,
     many: &mut OverMany<'_, D>,
@@ -228,7 +228,7 @@ fn put_other_rest<D: Drive, W: Write>(
 /// # Errors
 ///
 /// As `put_both_beside`.
-#[tactic(auto, using(br_data::proofs::GoOnLaws::go_more, br_data::proofs::GoOnLaws::failed_on, crate::proofs::GivenLaws::failed_then))]
+#[tactic(auto, using(br_data::proofs::GoOnLaws::go_more))]
 pub(crate) fn put_both<D: Drive, W: Write>(
     rt: &impl Threads,
     many: &mut OverMany<'_, D>,

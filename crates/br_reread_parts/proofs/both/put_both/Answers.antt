@@ -1,6 +1,6 @@
 use Rattle.std.proofs.lemmas.Result.{err_from_is_err_and}
-use Rattle.br_data.proofs.GoOnLaws.{failed_on, go_more}
-use Rattle.br_reread_parts.proofs.GivenLaws.{failed_then}
+use Rattle.br_data.proofs.GoOnLaws.{go_more}
+use Rattle.br_reread_parts.proofs.GivenLaws.{fail_after, fail_then}
 use Rattle.br_reread_parts.proofs.PutLaws.{err_of_some}
 use Rattle.br_reread_parts.proofs.StepLaws.{few_on, fits_on, more_put, put_later}
 use Rattle.br_reread_parts.proofs.TwoLaws.{both_of, both_then, none_of_both}
@@ -31,13 +31,13 @@ returns-in_err-put_rest-clause-changed g c =
 pub returns-in_err-put_rest-clause-lost : goal.returns-in_err-put_rest-clause-lost
 returns-in_err-put_rest-clause-lost g c =
     let p = err_from_is_err_and c.from_residual-in_err-put_rest.result c.from_residual-in_err-put_rest.ensures.1 in
-    rw (p.1, p.2) (λ is. failed_on _ _ _ c.put_while_both.ensures.on (c.in_err-put_rest.ensures.lost (err_of_some _ _ is)))
+    rw (p.1, p.2) (λ is. fail_after _ _ _ c.put_while_both.ensures.on.1 (c.in_err-put_rest.ensures.lost (err_of_some _ _ is)))
 
 pub returns-then-is_some-clause-changed : goal.returns-then-is_some-clause-changed
 returns-then-is_some-clause-changed g c = λ is fit. c.in_ok-fault.ensures.changed is fit
 
 pub returns-then-is_some-clause-lost : goal.returns-then-is_some-clause-lost
-returns-then-is_some-clause-lost g c = λ is. failed_then _ _ _ (c.in_ok-fault.ensures.lost is) c.put_rest.ensures.on
+returns-then-is_some-clause-lost g c = λ is. fail_then _ _ _ (c.in_ok-fault.ensures.lost is) c.put_rest.ensures.on.1
 
 pub returns-then-is_some-clause-on : goal.returns-then-is_some-clause-on
 returns-then-is_some-clause-on g c = go_more _ _ _ c.put_while_both.ensures.on c.put_rest.ensures.on
@@ -73,7 +73,7 @@ returns-clause-changed g c = λ is fit.
     (both_of c.in_ok-fault.fault c.if-is_some.ensures c.in_ok-fault.ensures.other) fit.1)
 
 pub returns-clause-lost : goal.returns-clause-lost
-returns-clause-lost g c = λ is. failed_on _ _ _ (go_more _ _ _ c.put_while_both.ensures.on c.put_rest.ensures.on) (c.put_other_rest.ensures.lost is)
+returns-clause-lost g c = λ is. fail_after _ _ _ (go_more _ _ _ c.put_while_both.ensures.on c.put_rest.ensures.on).1 (c.put_other_rest.ensures.lost is)
 
 pub returns-clause-front_one : goal.returns-clause-front_one
 returns-clause-front_one g c = few_on _ _ _ _ _ _ c.in_ok-fault.ensures.one c.put_rest.ensures.front

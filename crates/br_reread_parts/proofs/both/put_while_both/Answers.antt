@@ -1,6 +1,7 @@
 use Rattle.std.proofs.Common.{Some, Ok, ap, sym, ◌∙◌}
 use Rattle.std.proofs.lemmas.Result.{err_from_is_err_and}
-use Rattle.br_data.proofs.GoOnLaws.{failed_on, go_itself, go_more}
+use Rattle.br_data.proofs.GoOnLaws.{go_itself, go_more}
+use Rattle.br_reread_parts.proofs.GivenLaws.{fail_after}
 use Rattle.br_reread_parts.proofs.StepLaws.{few_on, few_put, fits_on, none_put, step_put}
 use Rattle.br_reread_parts.proofs.TwoLaws.{none_failed}
 use Rattle.br_reread_parts.proofs.both.put_while_both.Goals as goal
@@ -29,7 +30,7 @@ returns-in_err-fault-clause-changed g c =
 pub returns-in_err-fault-clause-lost : goal.returns-in_err-fault-clause-lost
 returns-in_err-fault-clause-lost g c =
     let p = err_from_is_err_and c.from_residual.result c.from_residual.ensures.1 in
-    rw (p.1, p.2) (λ is. failed_on _ _ _ c.loop-many.invariant.on (c.in_err-fault.ensures.lost is))
+    rw (p.1, p.2) (λ is. fail_after _ _ _ c.loop-many.invariant.on.1 (c.in_err-fault.ensures.lost is))
 
 pub returns-in-Some-clause-changed : goal.returns-in-Some-clause-changed
 returns-in-Some-clause-changed g c = λ is fit.
@@ -38,7 +39,7 @@ returns-in-Some-clause-changed g c = λ is fit.
     (fits_on c.standing_stays.ensures _ _ _ _ _ _ before.on before.one fit.0, fits_on c.standing_stays.ensures _ _ _ _ _ _ before.on before.other fit.1)
 
 pub returns-in-Some-clause-lost : goal.returns-in-Some-clause-lost
-returns-in-Some-clause-lost g c = λ is. failed_on _ _ _ c.loop-many.invariant.on (c.in_ok-fault.ensures.lost (c.in-Some.is ∙ is))
+returns-in-Some-clause-lost g c = λ is. fail_after _ _ _ c.loop-many.invariant.on.1 (c.in_ok-fault.ensures.lost (c.in-Some.is ∙ is))
 
 pub returns-in-Some-clause-on : goal.returns-in-Some-clause-on
 returns-in-Some-clause-on g c = go_more _ _ _ c.loop-many.invariant.on c.put_both_beside.ensures.on

@@ -1,6 +1,6 @@
 use Rattle.std.proofs.Common.{[]}
 use Rattle.std.proofs.lemmas.Result.{err_from_is_err_and}
-use Rattle.br_data.proofs.GoOnLaws.{failed_on}
+use Rattle.br_reread_parts.proofs.GivenLaws.{fail_after}
 use Rattle.br_reread_parts.specs.Steps.{step_of}
 use Rattle.br_reread_parts.proofs.PutLaws.{err_of_some}
 use Rattle.br_reread_parts.proofs.StepLaws.{fits_kept, writes_later}
@@ -23,4 +23,4 @@ returns-in-Err-clause-changed g c = λ is fit.
     c.in-Err.ensures.changed (err_of_some _ _ is) (fits_kept c.standing_stays.ensures _ _ (step_of [] c.args.next.now.other) c.write_ahead.ensures.on fit.1)
 
 pub returns-in-Err-clause-lost : goal.returns-in-Err-clause-lost
-returns-in-Err-clause-lost g c = λ is. failed_on _ _ _ c.write_ahead.ensures.on (c.in-Err.ensures.lost (err_of_some _ _ is))
+returns-in-Err-clause-lost g c = λ is. fail_after _ _ _ c.write_ahead.ensures.on.1 (c.in-Err.ensures.lost (err_of_some _ _ is))

@@ -1,6 +1,7 @@
 use Rattle.std.proofs.Common.{◌∙◌}
 use Rattle.std.proofs.lemmas.Result.{IfOk-weaker, err_from_is_err_and}
-use Rattle.br_data.proofs.GoOnLaws.{failed_on, go_more}
+use Rattle.br_data.proofs.GoOnLaws.{go_more}
+use Rattle.br_reread_parts.proofs.GivenLaws.{fail_after}
 use Rattle.br_reread_parts.proofs.PartLaws.{some_of_few}
 use Rattle.br_reread_parts.proofs.PutLaws.{err_again, err_anyway}
 use Rattle.br_reread_parts.proofs.StepLaws.{none_of, opened_fits, whole_same, whole_written}
@@ -25,7 +26,7 @@ returns-in_err-put_rest-clause-changed g c =
 pub returns-in_err-put_rest-clause-lost : goal.returns-in_err-put_rest-clause-lost
 returns-in_err-put_rest-clause-lost g c =
     let p = err_from_is_err_and c.from_residual-in_err-put_rest.result c.from_residual-in_err-put_rest.ensures.1 in
-    rw (p.1, p.2) (λ is. failed_on _ _ _ c.open_file.ensures.on (c.in_err-put_rest.ensures.lost (err_again _ _ is)))
+    rw (p.1, p.2) (λ is. fail_after _ _ _ c.open_file.ensures.on.1 (c.in_err-put_rest.ensures.lost (err_again _ _ is)))
 
 pub returns-in_err-put_rest-clause-front : goal.returns-in_err-put_rest-clause-front
 returns-in_err-put_rest-clause-front g c =

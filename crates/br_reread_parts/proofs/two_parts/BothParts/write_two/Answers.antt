@@ -1,5 +1,6 @@
 use Rattle.std.proofs.Common.{[]}
-use Rattle.br_data.proofs.GoOnLaws.{failed_on, go_more}
+use Rattle.br_data.proofs.GoOnLaws.{go_more}
+use Rattle.br_reread_parts.proofs.GivenLaws.{fail_after}
 use Rattle.br_reread_parts.proofs.PutLaws.{err_of_some}
 use Rattle.br_reread_parts.proofs.StepLaws.{none_of, opened_fits}
 use Rattle.br_reread_parts.proofs.TwoLaws.{alike_two, read_same, same_two, written_two}
@@ -47,7 +48,7 @@ returns-clause-changed g c = λ given is.
     )
 
 pub returns-clause-lost : goal.returns-clause-lost
-returns-clause-lost g c = λ is. failed_on _ _ _ c.open_two.ensures.on (c.put_both-put.ensures.lost (c.two_put.ensures.lost is))
+returns-clause-lost g c = λ is. fail_after _ _ _ c.open_two.ensures.on.1 (c.put_both-put.ensures.lost (c.two_put.ensures.lost is))
 
 pub returns-clause-on : goal.returns-clause-on
 returns-clause-on g c = go_more _ _ _ c.open_two.ensures.on c.put_both-put.ensures.on
