@@ -1,6 +1,6 @@
 -- Numbers, of which all from 2 ^ 64 on are alike.
 use Rattle.std.proofs.Common.{◌≡◌, ℕ, ◌+◌, ◌-◌, ◌*◌, ◌≤◌, ◌<◌, true, false, ltb, leb, take, length, List, refl, ap, inl, inr, ◌∙◌, arith, fold}
-use Rattle.std.proofs.lemmas.Bool.{cases_lt, lt-ltb, le-ltb, lt-leb, le-leb}
+use Rattle.std.proofs.lemmas.Bool.{cases_lt, lt-ltb, le-ltb, lt-leb}
 use Rattle.std.proofs.lemmas.List.{take_all}
 use Rattle.br_types.specs.DecimalField.{capped, up_to}
 

@@ -1,5 +1,5 @@
 use Rattle.std.proofs.Common.{◌≡◌, ◌<◌, ◌-◌, length, vec_len, arith}
-use Rattle.br_bsr.proofs.CountLaws.{last_set, none_set}
+use Rattle.br_bsr.proofs.CountLaws.{last_set}
 use Rattle.br_bsr.proofs.counts.set_last.Goals as goal
 
 pub returns-in-Some : goal.returns-in-Some

@@ -1,7 +1,7 @@
-use Rattle.std.proofs.Common.{◌≡◌, List, ℕ, Option, sym, ap, subst, ◌∙◌}
+use Rattle.std.proofs.Common.{◌≡◌, List, ℕ, Option, ap, subst, ◌∙◌}
 use Rattle.std.specs.Result.{OnOk}
-use Rattle.br_model.specs.BootstrapText.{before_comment, trimmed}
-use Rattle.br_bsr.specs.Counts.{stated, with_line, with_stated}
+use Rattle.br_model.specs.BootstrapText.{trimmed}
+use Rattle.br_bsr.specs.Counts.{stated, with_stated}
 use Rattle.br_bsr.proofs.CountLaws.{assigns, assigns_nothing}
 use Rattle.br_bsr.proofs.counts.take_line.Goals as goal
 

@@ -1,4 +1,4 @@
-use Rattle.std.proofs.Common.{sym, ◌∙◌}
+use Rattle.std.proofs.Common.{sym}
 use Rattle.br_types.proofs.BlankLaws.{front_found, front_missing}
 use Rattle.br_types.proofs.blanks.without_front.Goals as goal
 
