@@ -5,6 +5,7 @@ use Rattle.br_model.specs.Volume.{Volume}
 use Rattle.br_model.specs.Job.{JobRows}
 use Rattle.br_keeper.specs.Beginnings.{Beginning, beginning}
 use Rattle.br_keeper.specs.Publishing.{Publishing, all_published, publishing}
+use Rattle.br_keeper.specs.Listing.{Waits}
 use Rattle.br_keeper.specs.declared.vouched_lengths.Vouch.{Vouch}
 use Rattle.br_keeper.specs.contracts.vouched_lengths.Vouch as vouch
 use Rattle.br_keeper.specs.Writing.{Shelf, shelf_in}
@@ -38,8 +39,8 @@ module _ {C W : Type 0} where
   abbrev pub shelf_of : (W → Option (List Volume)) → (W → ℕ) → Keeping C W → Shelf
   shelf_of holds failures k = shelf_in holds failures k.volumes k.vouches
 
-  -- the job that waited is published, and this is its receipt; or none waited
+  -- a job waited and is published, and this is its receipt; or none waited
   abbrev pub RepublishesKept : Keeping C W → Keeping C W → Option Beginning → Type 0
   RepublishesKept old new receipt =
       MatchOption receipt ((new ≡ old) × (old.list.published ≡ old.list.added))
-      (λ r. (new ≡ record old { list = all_published old.list }) × (r ≡ beginning old.list.book old.list.added))
+      (λ r. (new ≡ record old { list = all_published old.list }) × (r ≡ beginning old.list.book old.list.added) × Waits old.list)

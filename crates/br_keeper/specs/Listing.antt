@@ -47,8 +47,12 @@ KnowsStored list p =
 abbrev pub Announces : Publishing → JobRows → Publishing → Beginning → Type 0
 Announces old rows new r = (new ≡ all_published (with_added old rows)) × (r ≡ beginning old.book (old.added ++ rows ∷ []))
 
--- the job that waited is published, and this is its receipt; or none waited
+-- a job waits: not all that were added are published
+abbrev pub Waits : Publishing → Type 0
+Waits p = p.published ≡ p.added → ⊥
+
+-- a job waited and is published, and this is its receipt; or none waited
 abbrev pub Republishes : Publishing → Publishing → Option Beginning → Type 0
 Republishes old new receipt =
     MatchOption receipt ((new ≡ old) × (old.published ≡ old.added))
-    (λ r. (new ≡ all_published old) × (r ≡ beginning old.book old.added))
+    (λ r. (new ≡ all_published old) × (r ≡ beginning old.book old.added) × Waits old)

@@ -3,7 +3,7 @@ ghost use Rattle.std.specs.Prelude.{◌≡◌, ◌<◌, ◌++◌, [], length, If
 ghost use Rattle.br_keeper.specs.Beginnings.{beginning};
 ghost use Rattle.br_keeper.specs.Publishing.{all_published, publishing, with_added};
 ghost use Rattle.br_keeper.specs.Sessions.{AllKnow};
-ghost use Rattle.br_keeper.specs.Listing.{Announces, IsListing, KnowsStored, PublishesAdded, PublishesAll, Republishes};
+ghost use Rattle.br_keeper.specs.Listing.{Announces, IsListing, KnowsStored, PublishesAdded, PublishesAll, Republishes, Waits};
 
 use crate::publisher::Publisher;
 use crate::sessions::{Receipt, Session};
@@ -120,7 +120,7 @@ impl Listing {
 
     /// Returns whether all stored jobs are published.
     fn is_published(&self) -> bool
-        ensures { MatchBool result (self.now.published ≡ self.now.added) (self.now.added ≡ [] → ⊥) }
+        ensures { MatchBool result (self.now.published ≡ self.now.added) (Waits self.now × (self.now.added ≡ [] → ⊥)) }
     {
         matches!(self.waiting, Waiting::Nothing)
     }

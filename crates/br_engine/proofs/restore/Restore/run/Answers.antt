@@ -33,6 +33,10 @@ returns-in_err-made-clause-restores g c =
     (delivers_refused (map g.D.Drive.shows c.args.self.now.drives.items) (map g.D.Drive.shows c.restore_within.new.drives.items) c.args.order.asked.bootstrap.now (option_map planned_in c.args.order.names) before before
     (option_map g.S.Sink.has c.args.self.now.sink) fault c.in_err-made.ensures.files (nothing_written before fault))
 
+pub returns-in_err-made-clause-changed : goal.returns-in_err-made-clause-changed
+returns-in_err-made-clause-changed g c =
+    let p = err_from_is_err_and c.from_residual.result c.from_residual.ensures.1 in rw (p.1, p.2) c.in_err-made.ensures.changed
+
 -- ---- memory runs out before the manifest
 
 pub returns-in_err-prepared-clause-restores : goal.returns-in_err-prepared-clause-restores
