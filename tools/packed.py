@@ -20,6 +20,7 @@ FILES = {
     "share/man/man1/brestore.1": "share/man/man1/brestore.1",
     "share/bash-completion/completions/brestore": "share/bash-completion/completions/brestore",
     "share/doc/brestore/RESTORING.md": "docs/RESTORING.md",
+    **{f"share/brestore/catalogue/{it}": f"catalogue/{it}" for it in ("import.sh", "stage.sql", "pgsql.sql", "mysql.sql", "sqlite.sql", "rules.sql")},
 }
 CONTROL = """Package: brestore
 Version: {version}
@@ -97,7 +98,7 @@ def lay(program, top, facts):
                 file.write(source.format(**facts))
         else:
             shutil.copyfile(os.path.join(ROOT, source), path)
-        os.chmod(path, 0o755 if source == program else 0o644)
+        os.chmod(path, 0o755 if source == program or place.endswith(".sh") else 0o644)
 
 
 def make_tar(program, room, facts):

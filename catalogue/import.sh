@@ -1,0 +1,228 @@
+#!/bin/sh
+# Makes a catalogue that brestore reads from the catalogue that Bacula keeps.
+#
+#     catalogue/import.sh NEW.db [-h HOST] [-p PORT] [-U USER] DB             by psql, from PostgreSQL
+#     catalogue/import.sh NEW.db --mysql [-h HOST] [-p PORT] [-U USER] DB     by mysql, from MySQL or MariaDB
+#     catalogue/import.sh NEW.db --sqlite FILE                                from a file of SQLite
+#
+# docs/RESTORING.md says how it is used, docs/formats.md what it takes and what it prints. The database is only read.
+# sqlite.sql, pgsql.sql and mysql.sql read it, stage.sql has the tables that they fill, and rules.sql makes the catalogue.
+
+set -eu
+LC_ALL=C
+export LC_ALL
+here=$(CDPATH='' cd -- "$(dirname -- "$0")" && pwd)
+
+usage() {
+    cat <<'END'
+usage: import.sh NEW.db [-h HOST] [-p PORT] [-U USER] DB
+       import.sh NEW.db --mysql [-h HOST] [-p PORT] [-U USER] DB
+       import.sh NEW.db --sqlite FILE
+options:
+  --client NAME     only the jobs of this client
+  --fileset NAME    only the jobs of this file set
+  --after MOMENT    only the jobs that began at this moment or later: 'YYYY-MM-DD HH:MM:SS', in UTC
+  --strict          end with status 1 if anything is not taken, or not as it was
+  --program FILE    the program brestore (default: that of PATH)
+END
+}
+
+bad_usage() {
+    echo "import.sh: $*" >&2
+    usage >&2
+    exit 2
+}
+
+fail() {
+    echo "import.sh: $*" >&2
+    exit 3
+}
+
+# Prints the bytes of a text in hexadecimal.
+hex() {
+    printf %s "$1" | od -An -v -tx1 | tr -d ' \n'
+}
+
+new='' base='' kind=pgsql source='' host='' port='' user=''
+client='' fileset='' after='' is_strict='' program=brestore
+
+while [ $# -gt 0 ]; do
+    case $1 in
+    --help)
+        usage
+        exit 0
+        ;;
+    --mysql) kind=mysql ;;
+    --strict) is_strict=yes ;;
+    -h | -p | -U | --sqlite | --client | --fileset | --after | --program)
+        [ $# -ge 2 ] && [ -n "$2" ] || bad_usage "$1 needs a value"
+        case $1 in
+        -h) host=$2 ;;
+        -p) port=$2 ;;
+        -U) user=$2 ;;
+        --sqlite) kind=sqlite source=$2 ;;
+        --client) client=$2 ;;
+        --fileset) fileset=$2 ;;
+        --after) after=$2 ;;
+        --program) program=$2 ;;
+        esac
+        shift
+        ;;
+    -?*) bad_usage "unknown option $1" ;;
+    '') bad_usage 'an empty word' ;;
+    *)
+        if [ -z "$new" ]; then
+            new=$1
+        elif [ -z "$base" ]; then
+            base=$1
+        else
+            bad_usage "one word too many: $1"
+        fi
+        ;;
+    esac
+    shift
+done
+[ -n "$new" ] || bad_usage 'the name of the new catalogue is missing'
+if [ $kind = sqlite ]; then
+    [ -z "$base$host$port$user" ] || bad_usage '--sqlite takes no database but its file'
+else
+    [ -n "$base" ] || bad_usage 'the name of the database is missing'
+fi
+
+needs() {
+    command -v "$1" > /dev/null || fail "there is no $1"
+}
+
+needs sqlite3
+needs "$program"
+case $kind in
+pgsql) needs psql ;;
+mysql)
+    mysql=mysql
+    command -v mysql > /dev/null || mysql=mariadb
+    needs $mysql
+    ;;
+sqlite)
+    [ -f "$source" ] || fail "$source is no file"
+    folder=$(CDPATH='' cd -- "$(dirname -- "$source")" && pwd)
+    # The file as a URI of SQLite, opened to read only: each byte of its path by its number.
+    uri=file:$(hex "$folder/${source##*/}" | sed 's/../%&/g')?mode=ro
+    ;;
+esac
+
+if [ -n "$after" ]; then
+    case $after in
+    [0-9][0-9][0-9][0-9]-[0-9][0-9]-[0-9][0-9]' '[0-9][0-9]:[0-9][0-9]:[0-9][0-9]) ;;
+    *) bad_usage "$after is no moment" ;;
+    esac
+    # A day that the calendar lacks becomes another one.
+    [ "$(sqlite3 -init /dev/null :memory: "SELECT datetime(strftime('%s', '$after'), 'unixepoch')")" = "$after" ] ||
+        bad_usage "$after is no moment"
+    after=$(sqlite3 -init /dev/null :memory: "SELECT strftime('%s', '$after')")
+fi
+
+# Nothing is written over.
+if [ -e "$new" ] || [ -L "$new" ]; then fail "$new is there already"; fi
+work=$new.import.$$
+mkdir -m 700 -- "$work" || fail "no folder can be made beside $new"
+trap 'rm -rf -- "$work"' EXIT
+trap 'exit 3' HUP INT TERM
+
+# Runs SQLite over the database of the rows as they were, with the new catalogue beside it.
+run_sqlite() {
+    (cd -- "$work" && SQLITE_TMPDIR=. sqlite3 -batch -bail -init /dev/null rows.db "$@")
+}
+
+# Run the client of the database, with statements from standard input.
+run_pgsql() {
+    PGCLIENTENCODING=SQL_ASCII psql -X -q -A -t -v ON_ERROR_STOP=1 ${host:+-h "$host"} ${port:+-p "$port"} ${user:+-U "$user"} -d "$base"
+}
+
+run_mysql() {
+    case $host in
+    /*) set -- --socket="$host" ;;
+    ?*) set -- --host="$host" ;;
+    *) set -- ;;
+    esac
+    $mysql "$@" ${port:+--port="$port"} ${user:+--user="$user"} --batch --raw --quick --skip-column-names --database="$base"
+}
+
+# Whether the names of files are in a table of their own, as before Bacula 11, and which text of SQL limits the jobs.
+within='1 = 1'
+case $kind in
+pgsql)
+    is_old=$(echo "SELECT count(*) FROM pg_attribute WHERE attrelid = 'file'::regclass AND attname = 'filenameid' AND NOT attisdropped;" | run_pgsql) ||
+        fail 'the database cannot be read'
+    client_name="encode(convert_to(c.Name, 'SQL_ASCII'), 'hex')"
+    fileset_name="encode(convert_to(s.FileSet, 'SQL_ASCII'), 'hex')"
+    start='j.JobTDate - coalesce(extract(epoch FROM j.EndTime - j.StartTime), 0)'
+    ;;
+mysql)
+    is_old=$(echo "SELECT count(*) FROM information_schema.columns WHERE table_schema = DATABASE() AND table_name = 'File' AND column_name = 'FilenameId';" | run_mysql) ||
+        fail 'the database cannot be read'
+    tables=$(echo "SELECT count(*) FROM information_schema.tables WHERE table_schema = DATABASE() AND table_name IN ('Job', 'JobMedia', 'File', 'Path') AND engine <> 'InnoDB';" | run_mysql)
+    [ "$tables" = 0 ] || echo 'import.sh: the tables have no transactions: no job may run while they are read' >&2
+    client_name='lower(hex(c.Name))'
+    fileset_name='lower(hex(s.FileSet))'
+    start='CAST(j.JobTDate AS SIGNED) - ifnull(timestampdiff(SECOND, j.StartTime, j.EndTime), 0)'
+    ;;
+sqlite)
+    is_old=$(run_sqlite "ATTACH '$uri' AS bacula; SELECT count(*) FROM pragma_table_info('File', 'bacula') WHERE lower(name) = 'filenameid';") ||
+        fail "$source cannot be read"
+    client_name='lower(hex(c.Name))'
+    fileset_name='lower(hex(s.FileSet))'
+    start="j.JobTDate - coalesce(CASE typeof(j.EndTime) WHEN 'text' THEN strftime('%s', j.EndTime) - strftime('%s', j.StartTime) END, 0)"
+    ;;
+esac
+if [ "$is_old" = 1 ]; then
+    name=n.Name names=' LEFT JOIN @Filename n ON n.FilenameId = f.FilenameId'
+else
+    name=f.Filename names=''
+fi
+if [ -n "$client" ]; then within="$within AND $client_name = '$(hex "$client")'"; fi
+if [ -n "$fileset" ]; then within="$within AND $fileset_name = '$(hex "$fileset")'"; fi
+if [ -n "$after" ]; then within="$within AND $start >= $after"; fi
+# Rows of no job belong to no client, file set or moment.
+all=0
+if [ "$within" = '1 = 1' ]; then all=1; fi
+
+# Prints the statements that read the database. A table of Bacula's has an `@` before its name.
+reading() {
+    before=''
+    if [ $kind = sqlite ]; then before=bacula.; fi
+    sed -e "s|@names@|$names|g" -e "s|@name@|$name|g" -e "s|@within@|$within|g" -e "s|@all@|$all|g" -e "s|@uri@|${uri-}|g" \
+        -e "s|@\([A-Z]\)|$before\1|g" "$here/$kind.sql"
+}
+
+# Prints statements that fill the tables of rows, as the client of the database makes them of its own rows.
+rows() {
+    cat "$here/stage.sql"
+    if [ $kind = sqlite ]; then
+        reading
+    else
+        echo 'BEGIN;'
+        # What is printed last says that nothing is missing.
+        reading | run_$kind || return
+        echo 'COMMIT;'
+    fi
+}
+
+# The empty tables are made by the program itself.
+"$program" serve --db "$work/new.db" --volumes "$work" < /dev/null > "$work/said" 2>&1 ||
+    fail "$program cannot make a catalogue: $(cat "$work/said")"
+rows | run_sqlite > "$work/said" || fail 'the database cannot be read'
+[ "$(run_sqlite 'SELECT count(*) FROM in_end')" = 1 ] || fail 'the database cannot be read to its end'
+run_sqlite < "$here/rules.sql" > "$work/said" || fail 'the catalogue cannot be made'
+run_sqlite "SELECT kind || ' ' || JobId || ' ' || count FROM line ORDER BY JobId, kind" > "$work/lines"
+jobs=$(run_sqlite 'SELECT count(*) FROM job WHERE kind IS NULL')
+[ "$jobs" != 0 ] || fail 'there is no job to take'
+files=$(run_sqlite "ATTACH 'new.db' AS new; SELECT count(*) FROM new.File")
+rm -f -- "$work/rows.db"
+
+"$program" jobs --db "$work/new.db" > "$work/jobs" 2> "$work/said" || fail "$program does not take the catalogue: $(cat "$work/said")"
+[ "$(wc -l < "$work/jobs")" -eq "$jobs" ] || fail "$program does not list each job"
+if [ -e "$new" ] || [ -L "$new" ]; then fail "$new is there already"; fi
+mv -- "$work/new.db" "$new" || fail "$new cannot be made"
+cat "$work/lines"
+echo "imported $jobs $files"
+if [ -n "$is_strict" ] && [ -s "$work/lines" ]; then exit 1; fi
