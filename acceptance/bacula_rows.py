@@ -89,6 +89,35 @@ MARIADB_NAMES = "CREATE TABLE Filename(FilenameId INTEGER UNSIGNED NOT NULL PRIM
 SECONDS = 60
 
 
+# The columns that are texts, and those that are moments; all others are numbers.
+TEXTS = set("Name FileSet VolumeName Path Type Level JobStatus Filename LStat MD5".split())
+TIMES = set("StartTime EndTime RealEndTime".split())
+
+
+def old_columns():
+    """Returns the columns of each table of the old form."""
+    return {**COLUMNS, "Filename": "FilenameId Name", "File": COLUMNS["File"].replace("Filename", "FilenameId")}
+
+
+def value_of(column, text):
+    """Returns a value that a server printed in hexadecimal."""
+    if text == "-":
+        return None
+    data = bytes.fromhex(text)
+    return data if column in TEXTS else data.decode() if column in TIMES else int(data)
+
+
+def text_in_sqlite(data):
+    """Returns a text of any bytes as SQLite's SQL has it."""
+    return f"CAST(x'{data.hex()}' AS TEXT)"
+
+
+def as_sqlite(rows):
+    """Returns statements that make a catalogue of the old form in a new file of SQLite."""
+    name = "FilenameId INTEGER UNSIGNED NOT NULL"
+    return SQLITE.format(name=name) + SQLITE_NAMES + "BEGIN;\n" + "".join(statements(rows, text_in_sqlite)) + "COMMIT;\n"
+
+
 def in_old_form(rows):
     """Returns the rows with the names of files in a table of their own. A file without a name points to a row that is not there."""
     names = list(dict.fromkeys(row[4] for row in rows["File"] if row[4] is not None))
@@ -108,9 +137,7 @@ def literal(value, text_of):
 
 def statements(rows, text_of):
     """Yields statements that insert the rows."""
-    columns = {**COLUMNS, "Filename": "FilenameId Name"}
-    if "Filename" in rows:
-        columns["File"] = columns["File"].replace("Filename", "FilenameId")
+    columns = old_columns() if "Filename" in rows else COLUMNS
     for table, its_rows in rows.items():
         for row in its_rows:
             values = ", ".join(literal(it, text_of) for it in row)
@@ -133,7 +160,7 @@ class Sqlite:
         connection = sqlite3.connect(self.file)
         name = "FilenameId INTEGER UNSIGNED NOT NULL" if is_old else "Filename TEXT NOT NULL"
         connection.executescript(SQLITE.format(name=name) + (SQLITE_NAMES if is_old else ""))
-        connection.executescript("".join(statements(in_old_form(rows) if is_old else rows, lambda it: f"CAST(x'{it.hex()}' AS TEXT)")))
+        connection.executescript("BEGIN;" + "".join(statements(in_old_form(rows) if is_old else rows, text_in_sqlite)) + "COMMIT;")
         connection.close()
 
     def stop(self):
@@ -207,6 +234,16 @@ class Postgres(Server):
         text = "SET client_min_messages = error; DROP SCHEMA public CASCADE; CREATE SCHEMA public;" + POSTGRES.format(name=name) + (POSTGRES_NAMES if is_old else "")
         text_of = lambda it: f"convert_from('\\x{it.hex()}'::bytea, 'SQL_ASCII')"
         self.run(text + "".join(statements(in_old_form(rows) if is_old else rows, text_of)))
+
+    def rows(self):
+        """Returns the rows of a catalogue of the old form."""
+        found = {}
+        for table, columns in old_columns().items():
+            texts = ", ".join(f"coalesce(encode(convert_to({it}::text, 'SQL_ASCII'), 'hex'), '-')" for it in columns.split())
+            words = [*self.client, "-A", "-t", "-c", f"SELECT concat_ws(',', {texts}) FROM {table} ORDER BY {columns.split()[0]}"]
+            lines = subprocess.run(words, capture_output=True, check=True, text=True).stdout.split()
+            found[table] = [tuple(map(value_of, columns.split(), line.split(","))) for line in lines]
+        return found
 
     def stop(self):
         """Ends the server, and removes its folder."""
