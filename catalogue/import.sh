@@ -160,7 +160,7 @@ pgsql)
 mysql)
     is_old=$(echo "SELECT count(*) FROM information_schema.columns WHERE table_schema = DATABASE() AND table_name = 'File' AND column_name = 'FilenameId';" | run_mysql) ||
         fail 'the database cannot be read'
-    tables=$(echo "SELECT count(*) FROM information_schema.tables WHERE table_schema = DATABASE() AND table_name IN ('Job', 'JobMedia', 'File', 'Path') AND engine <> 'InnoDB';" | run_mysql)
+    tables=$(echo "SELECT count(*) FROM information_schema.tables WHERE table_schema = DATABASE() AND table_name IN ('Job', 'JobMedia', 'File', 'Path') AND engine <> 'InnoDB';" | run_mysql) || fail 'the database cannot be read'
     [ "$tables" = 0 ] || echo 'import.sh: the tables have no transactions: no job may run while they are read' >&2
     client_name='lower(hex(c.Name))'
     fileset_name='lower(hex(s.FileSet))'
@@ -213,10 +213,10 @@ rows() {
 rows | run_sqlite > "$work/said" || fail 'the database cannot be read'
 [ "$(run_sqlite 'SELECT count(*) FROM in_end')" = 1 ] || fail 'the database cannot be read to its end'
 run_sqlite < "$here/rules.sql" > "$work/said" || fail 'the catalogue cannot be made'
-run_sqlite "SELECT kind || ' ' || JobId || ' ' || count FROM line ORDER BY JobId, kind" > "$work/lines"
-jobs=$(run_sqlite 'SELECT count(*) FROM job WHERE kind IS NULL')
+run_sqlite "SELECT kind || ' ' || JobId || ' ' || count FROM line ORDER BY JobId, kind" > "$work/lines" || fail 'the lines cannot be read'
+jobs=$(run_sqlite 'SELECT count(*) FROM job WHERE kind IS NULL') || fail 'the jobs cannot be counted'
 [ "$jobs" != 0 ] || fail 'there is no job to take'
-files=$(run_sqlite "ATTACH 'new.db' AS new; SELECT count(*) FROM new.File")
+files=$(run_sqlite "ATTACH 'new.db' AS new; SELECT count(*) FROM new.File") || fail 'the files cannot be counted'
 rm -f -- "$work/rows.db"
 
 "$program" jobs --db "$work/new.db" > "$work/jobs" 2> "$work/said" || fail "$program does not take the catalogue: $(cat "$work/said")"
