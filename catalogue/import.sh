@@ -55,7 +55,7 @@ while [ $# -gt 0 ]; do
     --mysql) kind=mysql ;;
     --strict) is_strict=yes ;;
     -h | -p | -U | --sqlite | --client | --fileset | --after | --program)
-        [ $# -ge 2 ] && [ -n "$2" ] || bad_usage "$1 needs a value"
+        if [ $# -lt 2 ] || [ -z "$2" ]; then bad_usage "$1 needs a value"; fi
         case $1 in
         -h) host=$2 ;;
         -p) port=$2 ;;
@@ -106,7 +106,7 @@ sqlite)
     [ -f "$source" ] || fail "$source is no file"
     folder=$(CDPATH='' cd -- "$(dirname -- "$source")" && pwd)
     # The file as a URI of SQLite, opened to read only: each byte of its path by its number.
-    uri=file:$(hex "$folder/${source##*/}" | sed 's/../%&/g')?mode=ro
+    uri="file:$(hex "$folder/${source##*/}" | sed "s/../%&/g")?mode=ro"
     ;;
 esac
 

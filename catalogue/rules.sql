@@ -133,8 +133,18 @@ INSERT INTO folder
   WHERE length(Path) <= 4096 AND substr(Path, 1, 1) = x'2f' AND substr(Path, -1) = x'2f' AND instr(Path, x'2f2f') = 0
     AND instr(Path, x'2f2e2f') = 0 AND instr(Path, x'2f2e2e2f') = 0 AND instr(Path, x'00') = 0;
 
+-- Two digits of base 64, as three of hexadecimal.
+CREATE TABLE pair(digits BLOB PRIMARY KEY, hex TEXT NOT NULL) WITHOUT ROWID;
+INSERT INTO pair
+  WITH RECURSIVE digit(n, c) AS (
+    SELECT 0, 'A' UNION ALL
+    SELECT n + 1, substr('ABCDEFGHIJKLMNOPQRSTUVWXYZabcdefghijklmnopqrstuvwxyz0123456789+/', n + 2, 1) FROM digit WHERE n < 63)
+  SELECT CAST(a.c || b.c AS BLOB), printf('%03x', 64 * a.n + b.n) FROM digit a, digit b;
+
 -- The rows of File in the order of the new catalogue. `lstat` is the text of 14 numbers, or what could not be cut so (`is_odd`). `digest` is
--- empty or an MD5 in hexadecimal, `other` another digest: 1 one that is passed over, 2 one that a restore takes for a fault.
+-- empty or an MD5 in hexadecimal. `other` is 0 without another digest, 1 with one that a restore passes over, 2 with one that it takes for a
+-- fault. The words of LStat that are needed are those of mode, size, LinkFI and stream; the first and third are NULL if these files are of
+-- no interest: with a stream that is supported, and below 2^30 bytes.
 CREATE TABLE entry(JobId INTEGER NOT NULL, FileIndex INTEGER NOT NULL, folder INTEGER, Filename BLOB, lstat TEXT, is_odd INTEGER,
   mode TEXT, size TEXT, link TEXT, stream TEXT, digest TEXT, other INTEGER, is_bad_path INTEGER, is_outside INTEGER, is_twice INTEGER);
 INSERT INTO entry
@@ -142,50 +152,51 @@ INSERT INTO entry
     CASE
       WHEN words IS NULL OR spaces = 13 THEN lstat
       WHEN spaces = 12 THEN lstat || ' A'
-      WHEN spaces = 15 THEN
-        substr(lstat, 1, length(lstat) - 2 - length(json_extract(words, '$[14]')) - length(json_extract(words, '$[15]')))
+      WHEN is_short THEN substr(lstat, 1, length(lstat) - 4)
       ELSE
         substr(lstat, 1, 13 + length(json_extract(words, '$[0]') || json_extract(words, '$[1]') || json_extract(words, '$[2]')
           || json_extract(words, '$[3]') || json_extract(words, '$[4]') || json_extract(words, '$[5]') || json_extract(words, '$[6]')
           || json_extract(words, '$[7]') || json_extract(words, '$[8]') || json_extract(words, '$[9]') || json_extract(words, '$[10]')
           || json_extract(words, '$[11]') || json_extract(words, '$[12]') || json_extract(words, '$[13]')))
     END,
-    FileIndex > 0 AND words IS NULL, json_extract(words, '$[2]'), json_extract(words, '$[7]'), ifnull(json_extract(words, '$[13]'), 'A'),
-    ifnull(json_extract(words, '$[15]'), 'C'),
-    CASE WHEN class = 1 THEN substr(printf('%03x%03x%03x%03x%03x%03x%03x%03x%03x%03x%03x',
-      64 * instr(digits, substr(md5, 1, 1)) + instr(digits, substr(md5, 2, 1)) - 65,
-      64 * instr(digits, substr(md5, 3, 1)) + instr(digits, substr(md5, 4, 1)) - 65,
-      64 * instr(digits, substr(md5, 5, 1)) + instr(digits, substr(md5, 6, 1)) - 65,
-      64 * instr(digits, substr(md5, 7, 1)) + instr(digits, substr(md5, 8, 1)) - 65,
-      64 * instr(digits, substr(md5, 9, 1)) + instr(digits, substr(md5, 10, 1)) - 65,
-      64 * instr(digits, substr(md5, 11, 1)) + instr(digits, substr(md5, 12, 1)) - 65,
-      64 * instr(digits, substr(md5, 13, 1)) + instr(digits, substr(md5, 14, 1)) - 65,
-      64 * instr(digits, substr(md5, 15, 1)) + instr(digits, substr(md5, 16, 1)) - 65,
-      64 * instr(digits, substr(md5, 17, 1)) + instr(digits, substr(md5, 18, 1)) - 65,
-      64 * instr(digits, substr(md5, 19, 1)) + instr(digits, substr(md5, 20, 1)) - 65,
-      64 * instr(digits, substr(md5, 21, 1)) + instr(digits, substr(md5, 22, 1)) - 65), 1, 32) ELSE '' END,
-    CASE class WHEN 2 THEN 1 WHEN 3 THEN 2 ELSE 0 END, is_bad_path, is_outside, 0
+    FileIndex > 0 AND words IS NULL, CASE WHEN stream NOT IN ('A', 'C', 'G') OR length(size) > 5 THEN json_extract(words, '$[2]') END, size,
+    CASE WHEN stream NOT IN ('A', 'C', 'G') OR length(size) > 5 THEN ifnull(json_extract(words, '$[13]'), 'A') END, stream,
+    CASE WHEN is_md5 AND FileIndex > 0 THEN substr(hex, 1, 32) ELSE '' END,
+    CASE
+      WHEN is_md5 OR FileIndex <= 0 OR MD5 IN (x'', x'30') THEN 0
+      WHEN length(MD5) IN (22, 27) OR instr(MD5, x'00') OR CAST(MD5 AS TEXT) GLOB '*[^A-Za-z0-9+/]*' THEN 1
+      ELSE 2
+    END,
+    is_bad_path, is_outside, 0
   FROM (
-    SELECT *, CASE WHEN is_plain AND spaces >= 12 THEN '["' || replace(lstat, ' ', '","') || '"]' END AS words
+    SELECT *, json_extract(words, '$[7]') AS size,
+      CASE WHEN is_short THEN substr(lstat, -1) ELSE ifnull(json_extract(words, '$[15]'), 'C') END AS stream
     FROM (
-      SELECT f.FileId, f.JobId, f.FileIndex, f.Filename, p.number, CAST(f.LStat AS TEXT) AS lstat, CAST(f.MD5 AS TEXT) AS md5,
-        'ABCDEFGHIJKLMNOPQRSTUVWXYZabcdefghijklmnopqrstuvwxyz0123456789+/' AS digits,
-        length(f.LStat) - length(replace(CAST(f.LStat AS TEXT), ' ', '')) AS spaces,
-        -- Words of 1 to 10 digits with a space between two.
-        f.FileIndex > 0 AND instr(f.LStat, x'00') = 0 AND CAST(f.LStat AS TEXT) NOT GLOB '*[^A-Za-z0-9+/ ]*'
-          AND instr(f.LStat, x'2020') = 0 AND CAST(f.LStat AS TEXT) GLOB '[^ ]*[^ ]'
-          AND CAST(f.LStat AS TEXT) NOT GLOB '*[^ ][^ ][^ ][^ ][^ ][^ ][^ ][^ ][^ ][^ ][^ ]*' AS is_plain,
-        -- 0 no digest, 1 MD5, 2 SHA1 or a text that is no digest, 3 other digests
-        CASE WHEN f.FileIndex <= 0 OR f.MD5 IN (x'', x'30') THEN 0
-          WHEN instr(f.MD5, x'00') OR CAST(f.MD5 AS TEXT) GLOB '*[^A-Za-z0-9+/]*' OR length(f.MD5) = 27 THEN 2
-          WHEN length(f.MD5) = 22 THEN CASE WHEN CAST(f.MD5 AS TEXT) GLOB '*[AQgw]' THEN 1 ELSE 2 END
-          ELSE 3 END AS class,
-        p.number IS NULL OR f.Filename IS NULL OR p.size + length(f.Filename) > 4096 OR instr(f.Filename, x'2f')
-          OR instr(f.Filename, x'00') OR f.Filename IN (x'2e', x'2e2e') AS is_bad_path,
-        f.FileIndex > 0 AND NOT EXISTS (
-          SELECT 1 FROM span s WHERE s.JobId = f.JobId AND s.LastIndex >= f.FileIndex AND s.FirstIndex <= f.FileIndex) AS is_outside
-      FROM in_file f CROSS JOIN job j ON j.JobId = f.JobId LEFT JOIN folder p ON p.PathId = f.PathId
-      WHERE j.kind IS NULL
+      SELECT *, CASE WHEN is_plain AND spaces >= 12 THEN '["' || replace(lstat, ' ', '","') || '"]' END AS words,
+        -- Sixteen words, the last two of one digit.
+        is_plain AND spaces = 15 AND substr(lstat, -2, 1) = ' ' AND substr(lstat, -4, 1) = ' ' AS is_short,
+        hex IS NOT NULL AND length(MD5) = 22 AND substr(hex, 33) = '0' AS is_md5
+      FROM (
+        SELECT f.FileId, f.JobId, f.FileIndex, f.Filename, f.MD5, p.number, CAST(f.LStat AS TEXT) AS lstat,
+          length(f.LStat) - length(replace(f.LStat, ' ', '')) AS spaces,
+          -- Words of 1 to 10 digits with a space between two.
+          f.FileIndex > 0 AND instr(f.LStat, x'00') = 0 AND instr(f.LStat, x'2020') = 0 AND substr(f.LStat, 1, 1) <> x'20'
+            AND substr(f.LStat, -1) <> x'20' AND CAST(f.LStat AS TEXT) NOT GLOB '*[^A-Za-z0-9+/ ]*'
+            AND ' ' || CAST(f.LStat AS TEXT) NOT GLOB '* [^ ][^ ][^ ][^ ][^ ][^ ][^ ][^ ][^ ][^ ][^ ]*' AS is_plain,
+          a.hex || b.hex || c.hex || d.hex || e.hex || g.hex || h.hex || i.hex || k.hex || l.hex || m.hex AS hex,
+          p.number IS NULL OR f.Filename IS NULL OR p.size + length(f.Filename) > 4096 OR instr(f.Filename, x'2f')
+            OR instr(f.Filename, x'00') OR f.Filename IN (x'2e', x'2e2e') AS is_bad_path,
+          f.FileIndex > 0 AND NOT EXISTS (
+            SELECT 1 FROM span s WHERE s.JobId = f.JobId AND s.LastIndex >= f.FileIndex AND s.FirstIndex <= f.FileIndex) AS is_outside
+        FROM in_file f CROSS JOIN job j ON j.JobId = f.JobId LEFT JOIN folder p ON p.PathId = f.PathId
+          LEFT JOIN pair a ON a.digits = substr(f.MD5, 1, 2) LEFT JOIN pair b ON b.digits = substr(f.MD5, 3, 2)
+          LEFT JOIN pair c ON c.digits = substr(f.MD5, 5, 2) LEFT JOIN pair d ON d.digits = substr(f.MD5, 7, 2)
+          LEFT JOIN pair e ON e.digits = substr(f.MD5, 9, 2) LEFT JOIN pair g ON g.digits = substr(f.MD5, 11, 2)
+          LEFT JOIN pair h ON h.digits = substr(f.MD5, 13, 2) LEFT JOIN pair i ON i.digits = substr(f.MD5, 15, 2)
+          LEFT JOIN pair k ON k.digits = substr(f.MD5, 17, 2) LEFT JOIN pair l ON l.digits = substr(f.MD5, 19, 2)
+          LEFT JOIN pair m ON m.digits = substr(f.MD5, 21, 2)
+        WHERE j.kind IS NULL
+        LIMIT -1 OFFSET 0)
       LIMIT -1 OFFSET 0)
     LIMIT -1 OFFSET 0)
   ORDER BY JobId, FileIndex <= 0, abs(FileIndex), is_bad_path, FileId;
