@@ -24,19 +24,21 @@ import lzma
 import os
 import random
 import shutil
+import signal
 import socket
 import stat
 import subprocess
 import sys
 import tempfile
 import time
+from concurrent.futures import ThreadPoolExecutor
 
 # Nothing is left beside the script.
 sys.dont_write_bytecode = True
 sys.path.insert(0, os.path.join(os.path.dirname(os.path.dirname(os.path.abspath(__file__))), "tools"))
 from bacula_rows import Postgres, as_sqlite
 from common import PROGRAM, ROOT, Checks
-from sampled import lines_of, restore
+from sampled import is_same, lines_of, restore
 
 SCRIPT = os.path.join(ROOT, "catalogue", "import.sh")
 TABLES = "/usr/share/dbconfig-common/data/bacula-director-pgsql/install/pgsql"
@@ -49,38 +51,34 @@ SECONDS = 120
 
 DIRECTOR = """
 Director {{ Name = test-dir; DIRport = {dir}; DirAddress = 127.0.0.1; QueryFile = "{top}/query.sql"; WorkingDirectory = "{top}/work"
-  PidDirectory = "{top}/work"; Maximum Concurrent Jobs = 10; Password = "p"; Messages = Standard }}
-Catalog {{ Name = Own; dbname = bacula; DB Address = "{socket}"; dbuser = bacula; dbpassword = "" }}
-Storage {{ Name = Disk; Address = 127.0.0.1; SDPort = {sd}; Password = "p"; Device = Folder; Media Type = File; Maximum Concurrent Jobs = 10 }}
-Pool {{ Name = Default; Pool Type = Backup; Recycle = no; AutoPrune = no; Label Format = "Vol-"; Maximum Volume Bytes = {volume} }}
-Messages {{ Name = Standard; append = "{top}/log" = all }}
-Job {{ Name = Restore; Type = Restore; Client = mars-fd; FileSet = Home; Storage = Disk; Pool = Default; Messages = Standard }}
+  PidDirectory = "{top}/work"; Maximum Concurrent Jobs = 10; Password = "p"; Messages = Standard; }}
+Catalog {{ Name = Own; dbname = bacula; DB Address = "{socket}"; dbuser = bacula; dbpassword = ""; }}
+Storage {{ Name = Disk; Address = 127.0.0.1; SDPort = {sd}; Password = "p"; Device = Folder; Media Type = File; Maximum Concurrent Jobs = 10; }}
+Pool {{ Name = Default; Pool Type = Backup; Recycle = no; AutoPrune = no; Label Format = "Vol-"; Maximum Volume Bytes = {volume}; }}
+Messages {{ Name = Standard; append = "{top}/log" = all; }}
+Job {{ Name = Restore; Type = Restore; Client = mars-fd; FileSet = Home; Storage = Disk; Pool = Default; Messages = Standard; }}
 """
 CLIENT = """
-Client {{ Name = {name}-fd; Address = 127.0.0.1; FDPort = {port}; Catalog = Own; Password = "p"; AutoPrune = no }}
-FileSet {{ Name = {fileset}; Include {{ Options {{ {options} }}; File = "{top}/{name}" }} }}
+Client {{ Name = {name}-fd; Address = 127.0.0.1; FDPort = {port}; Catalog = Own; Password = "p"; AutoPrune = no; }}
+FileSet {{ Name = {fileset}; Include {{ Options {{ {options}; }}; File = "{top}/{name}"; }} }}
 Job {{ Name = {name}; Type = Backup; Client = {name}-fd; FileSet = {fileset}; Storage = Disk; Pool = Default; Messages = Standard
-  Accurate = {accurate}; Maximum Concurrent Jobs = 5; Priority = 10 }}
-"""
-SLOW = """
-Job {{ Name = slow; Type = Backup; Client = mars-fd; FileSet = Home; Storage = Disk; Pool = Default; Messages = Standard; Level = Full
-  Maximum Bandwidth = 300 kb/s }}
+  Accurate = {accurate}; Maximum Concurrent Jobs = 5; }}
 """
 STORAGE = """
 Storage {{ Name = test-sd; SDPort = {sd}; SDAddress = 127.0.0.1; WorkingDirectory = "{top}/work"; Pid Directory = "{top}/work"
-  Maximum Concurrent Jobs = 10 }}
-Director {{ Name = test-dir; Password = "p" }}
+  Maximum Concurrent Jobs = 10; }}
+Director {{ Name = test-dir; Password = "p"; }}
 Device {{ Name = Folder; Media Type = File; Archive Device = "{top}/volumes"; LabelMedia = yes; Random Access = yes; AutomaticMount = yes
-  RemovableMedia = no; AlwaysOpen = no; Maximum Concurrent Jobs = 10 }}
-Messages {{ Name = Standard; director = test-dir = all }}
+  RemovableMedia = no; AlwaysOpen = no; Maximum Concurrent Jobs = 10; }}
+Messages {{ Name = Standard; director = test-dir = all; }}
 """
 FILE_DAEMON = """
 FileDaemon {{ Name = {name}-fd; FDport = {port}; FDAddress = 127.0.0.1; WorkingDirectory = "{top}/work-{name}"
-  Pid Directory = "{top}/work-{name}"; Maximum Concurrent Jobs = 10 }}
-Director {{ Name = test-dir; Password = "p" }}
-Messages {{ Name = Standard; director = test-dir = all, !skipped, !restored }}
+  Pid Directory = "{top}/work-{name}"; Maximum Concurrent Jobs = 10; }}
+Director {{ Name = test-dir; Password = "p"; }}
+Messages {{ Name = Standard; director = test-dir = all, !skipped, !restored; }}
 """
-CONSOLE = 'Director {{ Name = test-dir; DIRport = {dir}; address = 127.0.0.1; Password = "p" }}\n'
+CONSOLE = 'Director {{ Name = test-dir; DIRport = {dir}; address = 127.0.0.1; Password = "p"; }}\n'
 
 
 def tool(name):
@@ -106,7 +104,8 @@ class Site:
     """A Director, a storage daemon and two file daemons, with their catalogue."""
 
     def __init__(self, top, stops, is_small):
-        self.top, self.stops, self.is_small = top, stops, is_small
+        self.top, self.stops, self.is_small, self.children = top, stops, is_small, {}
+        self.volume = 1_000_000 if is_small else 3_000_000
         self.ports = {"dir": free_port(), "sd": free_port(), **{name: free_port() for name in CLIENTS}}
         for name in ("work", "volumes", *CLIENTS, *(f"work-{it}" for it in CLIENTS)):
             os.mkdir(os.path.join(top, name))
@@ -122,14 +121,14 @@ class Site:
 
     def write_configuration(self):
         """Writes a file for each daemon, and one for the console."""
-        volume = 200_000 if self.is_small else 3_000_000
-        values = {"top": self.top, "socket": self.database.folder, "volume": volume, **self.ports}
+        volume, bandwidth = (1_000_000, 130) if self.is_small else (3_000_000, 2000)
+        values = {"top": self.top, "socket": self.database.folder, "volume": volume, "bandwidth": bandwidth, "half": bandwidth // 2, **self.ports}
         director = DIRECTOR.format(**values)
         for name, (fileset, accurate, options) in CLIENTS.items():
             more = {"name": name, "port": self.ports[name], "fileset": fileset, "accurate": accurate, "options": options}
             director += CLIENT.format(**values, **more)
             self.write(f"{name}.conf", FILE_DAEMON.format(**values, **more))
-        self.write("dir.conf", director + SLOW.format())
+        self.write("dir.conf", director)
         self.write("sd.conf", STORAGE.format(**values))
         self.write("console.conf", CONSOLE.format(**values))
         self.write("query.sql", "")
@@ -143,6 +142,7 @@ class Site:
         with open(os.path.join(self.top, f"{configuration}.log"), "wb") as log:
             words = [tool(program), "-f", "-c", os.path.join(self.top, configuration)]
             child = subprocess.Popen(words, stdout=log, stderr=log, env=ENVIRONMENT, cwd=self.top)
+        self.children[configuration] = child
         self.stops.callback(end, child)
         for _ in range(10 * SECONDS):
             with contextlib.suppress(OSError), socket.create_connection(("127.0.0.1", port), 1):
@@ -159,17 +159,49 @@ class Site:
         ran = subprocess.run(words, input=text.encode(), capture_output=True, env=ENVIRONMENT, timeout=SECONDS)
         return ran.stdout.decode(errors="replace")
 
+    def written(self):
+        """Returns how many bytes the volumes have."""
+        return sum(os.path.getsize(it) for it in glob.glob(os.path.join(self.top, "volumes", "*")))
+
+    @contextlib.contextmanager
+    def held(self, share):
+        """Holds the file daemon of mars once it has saved this share of a volume more."""
+        wanted = self.written() + share * self.volume
+        yield
+        for _ in range(1000 * SECONDS):
+            if self.written() > wanted:
+                break
+            time.sleep(0.001)
+        self.children["mars.conf"].send_signal(signal.SIGSTOP)
+
+    def go_on(self):
+        """Lets the file daemon of mars go on."""
+        self.children["mars.conf"].send_signal(signal.SIGCONT)
+
     def back_up(self, level):
-        """Runs the jobs of both clients at the same time, and waits for them. Returns the moment after them, in UTC."""
-        self.console(*(f"run job={name} level={level} yes" for name in CLIENTS), "wait")
+        """Runs the jobs of both clients, and waits for them. The first ones run at the same time: that of venus while that of mars is held.
+        Returns the moment after them, in UTC."""
+        if level == "Full":
+            with self.held(0.3):
+                self.console("run job=mars level=Full yes")
+            self.console("run job=venus level=Full yes")
+            time.sleep(5)
+            self.go_on()
+            self.console("wait")
+        else:
+            self.console(*(f"run job={name} level={level} yes" for name in CLIENTS), "wait")
         time.sleep(2)
         return int(time.time()) - 1
 
     def cancel(self):
-        """Starts a slow job, and cancels it while it writes."""
-        self.console("run job=slow yes")
-        time.sleep(4)
-        self.console("cancel all yes", "wait")
+        """Cancels a Full of mars once it has filled a volume."""
+        with self.held(1.2):
+            self.console("run job=mars level=Full yes")
+        with ThreadPoolExecutor(1) as beside:
+            cancelling = beside.submit(self.console, "cancel all yes", "wait")
+            time.sleep(2)
+            self.go_on()
+            cancelling.result()
 
     def restore(self, name, moment, into):
         """Has Bacula restore all that a client had at a moment."""
@@ -241,8 +273,8 @@ def plant(top, draw, share):
         file.truncate(5_000_000)
 
 
-def change(top, draw, stage, share):
-    """Changes, adds, removes and renames files before a job."""
+def change(top, draw, stage, share, is_accurate):
+    """Changes, adds, removes and renames files before a job. Only with Accurate a folder can take the place of a link, and a hard link go."""
     for number in range(stage, 40, 7):
         put(b"%s/many/%02d/file" % (top, number), draw.randbytes(draw.randrange(90_000) // share))
     put(b"%s/added/%d" % (top, stage), draw.randbytes(1000))
@@ -252,6 +284,7 @@ def change(top, draw, stage, share):
     os.rename(b"%s/many/%02d/file" % (top, 4 * stage + 5), b"%s/moved %d" % (top, stage))
     if stage == 1:
         os.remove(top + b"/odd/new\nline")
+    if stage == 1 and is_accurate:
         os.remove(top + b"/hard/second")
         os.remove(top + b"/link")
         os.mkdir(top + b"/link")
@@ -287,14 +320,19 @@ def tree_of(top):
     return found
 
 
+def without_late_times(tree, moment):
+    """Returns a tree with `-` as the time of each folder into which Bacula put a file after it had set the time: that of the restore."""
+    return {path: (*seen[:4], "-", *seen[5:]) if seen[0] == stat.S_IFDIR and seen[4] > moment else seen for path, seen in tree.items()}
+
+
 def restored(checks, db, site, name, moment, into):
-    """Restores all by `console --tar` and GNU tar. Returns the status, and what is printed to standard error."""
+    """Restores all by `console --tar` and GNU tar. Returns the status of both, and what they print to standard error."""
     os.mkdir(into)
     file = f"{into}.tar"
     found = restore(checks.program, db, os.path.join(site.top, "volumes"), f"{name}-fd", CLIENTS[name][0], moment, file)
     tar = ["tar", "--extract", "--file", file, "--preserve-permissions", "--numeric-owner", "--delay-directory-restore", "--warning=no-timestamp", "--directory", into]
-    subprocess.run(tar, check=True)
-    return found
+    ran = subprocess.run(tar, capture_output=True, text=True, errors="replace")
+    return *found, ran.returncode, ran.stderr
 
 
 def compare(checks, site, db, moments):
@@ -305,10 +343,11 @@ def compare(checks, site, db, moments):
             theirs, ours = (os.path.join(site.top, f"{it}-{name}-{stage}") for it in ("bacula", "brestore"))
             said = site.restore(name, moment, theirs)
             title, below = f"{name} after job {stage + 1} ({LEVELS[stage]})", os.path.join(site.top, name)
-            checks.check(f"{title}: console", restored(checks, db, site, name, moment, ours), (0, ""))
+            checks.check(f"{title}: console", restored(checks, db, site, name, moment, ours), (0, "", 0, ""))
             wanted, found = (tree_of(f"{it}{below}".encode()) for it in (theirs, ours))
+            wanted = without_late_times(wanted, moments[-1])
             checks.check(f"{title}: paths", (sorted(found.keys() ^ wanted.keys()), len(wanted) > 100), ([], True))
-            differ = [(it, found[it], wanted[it]) for it in sorted(wanted.keys() & found.keys()) if found[it] != wanted[it]]
+            differ = [(it, found[it], wanted[it]) for it in sorted(wanted.keys() & found.keys()) if not is_same(found[it], wanted[it])]
             checks.check(f"{title}: what is at {len(wanted)} paths", differ, [])
             sections.append("".join(f"{line}\n" for line in [f"# {name}-fd {CLIENTS[name][0]} {moment} {below}", *lines_of(wanted)]))
             if not wanted:
@@ -318,12 +357,12 @@ def compare(checks, site, db, moments):
 
 def backed_up(site):
     """Has the clients saved four times, and changes their files between. Returns the moment after each job."""
-    draw, moments, share = random.Random(1), [], 40 if site.is_small else 1
+    draw, moments, share = random.Random(1), [], 400 if site.is_small else 1
     for stage, level in enumerate(LEVELS):
         for name in CLIENTS:
             top = os.path.join(site.top, name).encode()
             if stage:
-                change(top, draw, stage, share)
+                change(top, draw, stage, share, CLIENTS[name][1] == "yes")
             else:
                 plant(top, draw, share)
         time.sleep(2)
@@ -333,10 +372,10 @@ def backed_up(site):
     return moments
 
 
-def write_sample(folder, site, lines, sections):
+def write_sample(folder, site, catalogue, lines, sections):
     """Writes the catalogue, the volumes and the restored trees of a run."""
     os.makedirs(os.path.join(folder, "volumes"))
-    texts = {"bacula.sql.xz": as_sqlite(site.database.rows()).encode(), "restored.xz": "".join(sections).encode()}
+    texts = {"bacula.sql.xz": catalogue.encode(), "restored.xz": "".join(sections).encode()}
     for volume in os.listdir(os.path.join(site.top, "volumes")):
         with open(os.path.join(site.top, "volumes", volume), "rb") as file:
             texts[f"volumes/{volume}.xz"] = file.read()
@@ -357,10 +396,14 @@ def run(checks, top, sample):
         ran = subprocess.run(words, capture_output=True, text=True, env=ENVIRONMENT)
         print(ran.stdout, end="")
         checks.check("the import", (ran.returncode, ran.stderr), (0, ""))
-        checks.check("volumes", len(glob.glob(os.path.join(top, "volumes", "*"))) > 3, True)
+        # Before the restores, which are jobs of their own.
+        rows = site.database.rows()
+        text, volumes = as_sqlite(rows), [{row[2] for row in rows["JobMedia"] if row[1] == number} for number in (1, 2)]
+        checks.check("jobs that share a volume, and that span volumes", (len(volumes[0] & volumes[1]) > 0, len(volumes[0]) > 1), (True, True))
+        checks.check("a cancelled job", ran.stdout.count("unfinished "), 1)
         sections = compare(checks, site, db, moments)
         if sample:
-            write_sample(sample, site, ran.stdout, sections)
+            write_sample(sample, site, text, ran.stdout, sections)
 
 
 def main():

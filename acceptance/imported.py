@@ -275,7 +275,7 @@ def spans_with_gaps_and_of_no_file(rows, kept):
         span(1, 1, 1, 2, 206, 1172), span(2, 1, 2, 2, 500, 600, index=2, media=2), span(3, 1, 2, 3, 601, 650, index=3, media=2),
         span(4, 1, 3, 3, 700, 800, index=4, media=2), span(5, 1, 3, 3, 5, 7, index=5, media=2, high=(1, 2)), span(6, 2, 1, 1, 1173, 1655),
     ]
-    return []
+    return ["empty 1 1"]
 
 
 @case

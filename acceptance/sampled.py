@@ -21,6 +21,7 @@ import sys
 import tarfile
 import tempfile
 import time
+from itertools import zip_longest
 
 # Nothing is left beside the script.
 sys.dont_write_bytecode = True
@@ -53,6 +54,11 @@ def tree_in_stream(file, below):
         found = {name: seen_in_stream(stream, entries[first[name]], targets.count(first[name])) for name in entries}
     front = below.strip("/") + "/"
     return {name[len(front):].encode("utf-8", "surrogateescape"): seen for name, seen in found.items() if name.startswith(front)}
+
+
+def is_same(found, wanted):
+    """Returns whether what is found is what is wanted, in which `-` stands for anything."""
+    return len(found) == len(wanted) and all(one == other or other == "-" for one, other in zip(found, wanted))
 
 
 def lines_of(tree):
@@ -104,7 +110,9 @@ def main():
         for place, (client, fileset, moment, below, lines) in enumerate(sections()):
             stream = os.path.join(folder, f"{place}.tar")
             checks.check(f"{client}, restore {place + 1}", restore(checks.program, db, volumes, client, fileset, moment, stream), (0, ""))
-            checks.check(f"and its {len(lines)} paths", sorted(set(lines) ^ set(lines_of(tree_in_stream(stream, below)))), [])
+            found = lines_of(tree_in_stream(stream, below))
+            differ = [(one, other) for one, other in zip_longest(found, lines, fillvalue="") if not is_same(one.split(" "), other.split(" "))]
+            checks.check(f"and its {len(lines)} paths", differ, [])
     return 1 if checks.failed else 0
 
 

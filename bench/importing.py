@@ -86,10 +86,10 @@ def measure(source, rows, program, folder):
     fill(source, rows)
     db, said, found, is_whole = os.path.join(folder, "new.db"), os.path.join(folder, "said"), [], True
     for it in (program, stand_in(program, folder)):
-        seconds, memory, _, status = run_measured([os.path.join(FOLDER, "import.sh"), db, "--program", it, *source.words], said)
+        seconds, memory, processor, status = run_measured([os.path.join(FOLDER, "import.sh"), db, "--program", it, *source.words], said)
         with open(said) as text:
             is_whole &= status == 0 and text.read() == f"imported 1 {rows}\n"
-        found.append(f"{seconds:.1f} s and at most {memory / MIB:.0f} MiB")
+        found.append(f"{seconds:.1f} s ({processor:.1f} s of the processor), at most {memory / MIB:.0f} MiB")
         with contextlib.suppress(FileNotFoundError):
             os.remove(db)
     text = f"{found[0]}, without `brestore jobs` {found[1]}, the client alone {exported(source):.1f} s"

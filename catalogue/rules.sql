@@ -95,6 +95,9 @@ INSERT INTO line
   SELECT j.JobId, 'virtual', ifnull(f.files, 0) FROM job j LEFT JOIN filed f ON f.JobId = j.JobId
   WHERE j.kind IS NULL AND j.level IN ('F', 'f') AND j.real_end_clock > j.end_clock;
 INSERT INTO line
+  SELECT m.JobId, 'empty', count(*) FROM in_jobmedia m JOIN job j ON j.JobId = m.JobId
+  WHERE j.kind IS NULL AND m.FirstIndex = 0 AND m.LastIndex = 0 GROUP BY m.JobId;
+INSERT INTO line
   SELECT s.JobId, 'disabled', count(*) FROM span s JOIN job j ON j.JobId = s.JobId
   WHERE j.kind IS NULL AND s.is_disabled GROUP BY s.JobId;
 
