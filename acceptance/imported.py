@@ -359,7 +359,12 @@ def sessions_that_come_twice(rows, kept):
     rows["JobMedia"].append(span(3, 3, 1, 1, 2000, 2100))
     rows["File"] += [(5, 1, 3, 1, b"c", FILE, HELLO), (6, 2, 3, 1, b"d", FILE, HELLO)]
     # One that is left out for another reason is in nobody's way.
-    rows["Job"].append(job(4, Type=b"C", VolSessionId=2))
+    rows["Job"] += [job(4, Type=b"C", VolSessionId=5), job(5)]
+    rows["JobMedia"].append(span(4, 5, 1, 1, 2101, 2200))
+    rows["File"].append((7, 1, 5, 1, b"a", FILE, HELLO))
+    kept["Job"].append(kept_job(5))
+    kept["JobMedia"].append(span(3, 5, 1, 1, 2101, 2200))
+    kept["File"].append((5, 1, 5, 1, b"a", FILE_KEPT, HELLO_HEX))
     return ["session 3 2", "type 4 0"]
 
 
