@@ -244,12 +244,14 @@ CREATE VIEW judged AS
   SELECT JobId, is_outside, other > 0 AS is_other, digest <> '' AND stream = 'G' AS is_sparse,
     other = 2 OR is_regular AND stream NOT IN ('A', 'C', 'G') AS is_unsupported,
     is_regular AND (length(ltrim(size, 'A')) > 6 OR length(ltrim(size, 'A')) = 6 AND ltrim(size, 'A') <> 'BAAAAA') AS is_large
-  FROM (SELECT *, mode GLOB 'I??' AND ltrim(size, 'A') <> '' AND size NOT GLOB '-*' AND ltrim(link, 'A') = '' AS is_regular FROM entry)
-  WHERE FileIndex > 0 AND NOT is_bad_path AND NOT is_twice;
+  FROM (
+    SELECT *, ifnull(mode GLOB 'I??' AND ltrim(size, 'A') <> '' AND size NOT GLOB '-*' AND ltrim(link, 'A') = '', 0) AS is_regular
+    FROM entry
+    WHERE (is_outside OR other > 0 OR stream = 'G' OR mode IS NOT NULL) AND FileIndex > 0 AND NOT is_bad_path AND NOT is_twice);
 CREATE TABLE said AS
   SELECT JobId, sum(is_outside) AS outside, sum(is_other) AS digest, sum(is_sparse) AS sparse, sum(is_unsupported) AS unsupported,
     sum(is_large) AS large
-  FROM judged WHERE is_outside OR is_other OR is_sparse OR is_unsupported OR is_large GROUP BY JobId;
+  FROM judged GROUP BY JobId;
 INSERT INTO line
   SELECT * FROM (
     SELECT JobId, 'outside', outside AS count FROM said UNION ALL SELECT JobId, 'digest', digest FROM said
