@@ -14,6 +14,7 @@ something is not as expected.
 import argparse
 import contextlib
 import os
+import shutil
 import sqlite3
 import subprocess
 import sys
@@ -589,6 +590,10 @@ def refuses(checks, source, folder):
         checks.check(name, (found[:2], found[2].count("import.sh: ") > 0, os.path.exists(db)), ((status, ""), True, False))
     checks.check("leave nothing", [it for it in os.listdir(folder) if it.startswith("new.db")], [])
     lost(checks, source, db)
+    if source.name != "SQLite":
+        cut(checks, source, folder, db)
+    if source.name == "MariaDB":
+        warns(checks, source, db)
 
 
 def refusing_program(checks, folder):
@@ -611,6 +616,27 @@ def lost(checks, source, db):
         source.run(("USE bacula; " if source.name == "MariaDB" else "") + "DROP TABLE JobMedia;")
     found = run_import(checks, db, *source.words)
     checks.check(f"a table that is not there, {source.name}", (found[:2], os.path.exists(db)), ((3, ""), False))
+
+
+def cut(checks, source, folder, db):
+    """Tries a client that prints some rows and ends with status 0."""
+    name = "psql" if source.name == "PostgreSQL" else "mysql"
+    place = os.path.join(folder, "cutting")
+    os.makedirs(place, exist_ok=True)
+    with open(os.path.join(place, name), "w") as script:
+        script.write(f'#!/bin/sh\n{shutil.which(name)} "$@" | head -n 8\n')
+    os.chmod(script.name, 0o755)
+    source.fill(base(), False)
+    found = run_import(checks, db, *source.words, PATH=f"{place}:{os.environ['PATH']}")
+    checks.check(f"a client that ends early, {source.name}", (found[:2], os.path.exists(db)), ((3, ""), False))
+
+
+def warns(checks, source, db):
+    """Imports tables without transactions."""
+    source.fill(base(), True)
+    source.run("USE bacula; ALTER TABLE File ENGINE = MyISAM;")
+    text = "import.sh: the tables have no transactions: no job may run while they are read\n"
+    checks.check("tables without transactions", run_import(checks, db, *source.words), (0, "imported 2 4\n", text))
 
 
 def sources(folder, is_quick):
