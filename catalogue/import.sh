@@ -151,24 +151,33 @@ run_mysql() {
 within='1 = 1'
 case $kind in
 pgsql)
-    is_old=$(echo "SELECT count(*) FROM pg_attribute WHERE attrelid = 'file'::regclass AND attname = 'filenameid' AND NOT attisdropped;" | run_pgsql) ||
-        fail 'the database cannot be read'
+    is_old=$(run_pgsql <<'END'
+SELECT count(*) FROM pg_attribute WHERE attrelid = 'file'::regclass AND attname = 'filenameid' AND NOT attisdropped;
+END
+    ) || fail 'the database cannot be read'
     client_name="encode(convert_to(c.Name, 'SQL_ASCII'), 'hex')"
     fileset_name="encode(convert_to(s.FileSet, 'SQL_ASCII'), 'hex')"
     start='j.JobTDate - coalesce(extract(epoch FROM j.EndTime - j.StartTime), 0)'
     ;;
 mysql)
-    is_old=$(echo "SELECT count(*) FROM information_schema.columns WHERE table_schema = DATABASE() AND table_name = 'File' AND column_name = 'FilenameId';" | run_mysql) ||
-        fail 'the database cannot be read'
-    tables=$(echo "SELECT count(*) FROM information_schema.tables WHERE table_schema = DATABASE() AND table_name IN ('Job', 'JobMedia', 'File', 'Path') AND engine <> 'InnoDB';" | run_mysql) || fail 'the database cannot be read'
+    is_old=$(run_mysql <<'END'
+SELECT count(*) FROM information_schema.columns
+WHERE table_schema = DATABASE() AND table_name = 'File' AND column_name = 'FilenameId';
+END
+    ) || fail 'the database cannot be read'
+    tables=$(run_mysql <<'END'
+SELECT count(*) FROM information_schema.tables
+WHERE table_schema = DATABASE() AND table_name IN ('Job', 'JobMedia', 'File', 'Path') AND engine <> 'InnoDB';
+END
+    ) || fail 'the database cannot be read'
     [ "$tables" = 0 ] || echo 'import.sh: the tables have no transactions: no job may run while they are read' >&2
     client_name='lower(hex(c.Name))'
     fileset_name='lower(hex(s.FileSet))'
     start='CAST(j.JobTDate AS SIGNED) - ifnull(timestampdiff(SECOND, j.StartTime, j.EndTime), 0)'
     ;;
 sqlite)
-    is_old=$(run_sqlite "ATTACH '$uri' AS bacula; SELECT count(*) FROM pragma_table_info('File', 'bacula') WHERE lower(name) = 'filenameid';") ||
-        fail "$source cannot be read"
+    is_old=$(run_sqlite "ATTACH '$uri' AS bacula;
+SELECT count(*) FROM pragma_table_info('File', 'bacula') WHERE lower(name) = 'filenameid';") || fail "$source cannot be read"
     client_name='lower(hex(c.Name))'
     fileset_name='lower(hex(s.FileSet))'
     start="j.JobTDate - coalesce(CASE typeof(j.EndTime) WHEN 'text' THEN strftime('%s', j.EndTime) - strftime('%s', j.StartTime) END, 0)"
