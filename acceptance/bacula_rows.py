@@ -4,6 +4,7 @@ A catalogue is a dictionary: for each table its rows, which are tuples of the co
 the old one has the names of files in a table of their own, as before Bacula 11; the new one has them in File.
 """
 
+import contextlib
 import glob
 import os
 import pwd
@@ -12,6 +13,7 @@ import sqlite3
 import subprocess
 import tempfile
 import time
+from urllib.parse import quote
 
 # The columns of each table that are filled. The third word of File is that of the name: its column in the new form, its text here.
 COLUMNS = {
@@ -107,6 +109,13 @@ def value_of(column, text):
     return data if column in TEXTS else data.decode() if column in TIMES else int(data)
 
 
+def value_in_sqlite(column, value):
+    """Returns a value of SQLite: moments as texts, and 0 as none."""
+    if column in TIMES:
+        return value.decode() if isinstance(value, bytes) else None
+    return int(value) if isinstance(value, bytes) and column not in TEXTS else value
+
+
 def text_in_sqlite(data):
     """Returns a text of any bytes as SQLite's SQL has it."""
     return f"CAST(x'{data.hex()}' AS TEXT)"
@@ -162,6 +171,21 @@ class Sqlite:
         connection.executescript(SQLITE.format(name=name) + (SQLITE_NAMES if is_old else ""))
         connection.executescript("BEGIN;" + "".join(statements(in_old_form(rows) if is_old else rows, text_in_sqlite)) + "COMMIT;")
         connection.close()
+
+    def run(self, text):
+        """Runs statements."""
+        with contextlib.closing(sqlite3.connect(self.file)) as connection:
+            connection.executescript(text)
+
+    def rows(self):
+        """Returns the rows of a catalogue of the old form."""
+        found = {}
+        with contextlib.closing(sqlite3.connect(f"file:{quote(self.file)}?mode=ro", uri=True)) as connection:
+            connection.text_factory = bytes
+            for table, columns in old_columns().items():
+                rows = connection.execute(f"SELECT {', '.join(columns.split())} FROM {table} ORDER BY 1")
+                found[table] = [tuple(map(value_in_sqlite, columns.split(), row)) for row in rows]
+        return found
 
     def stop(self):
         """Does nothing: there is no server."""

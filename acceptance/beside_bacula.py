@@ -2,7 +2,8 @@
 """Has Bacula's own daemons make backups in a folder of its own, imports their catalogue, and compares what `brestore console` restores
 with what Bacula restores.
 
-    acceptance/beside_bacula.py                    needs root, bacula-director-pgsql, bacula-sd, bacula-fd, bacula-console, PostgreSQL
+    acceptance/beside_bacula.py                    needs root, bacula-sd, bacula-fd, bacula-console, and bacula-director-pgsql with
+                                                   PostgreSQL or bacula-director-sqlite3
     acceptance/beside_bacula.py --program FILE     another program
     acceptance/beside_bacula.py --keep DIR         keeps the folder of the run, which is made
     acceptance/beside_bacula.py --sample DIR       makes a small run, and writes its catalogue, volumes and restored trees there
@@ -36,12 +37,13 @@ from concurrent.futures import ThreadPoolExecutor
 # Nothing is left beside the script.
 sys.dont_write_bytecode = True
 sys.path.insert(0, os.path.join(os.path.dirname(os.path.dirname(os.path.abspath(__file__))), "tools"))
-from bacula_rows import Postgres, as_sqlite
+from bacula_rows import Postgres, Sqlite, as_sqlite
 from common import PROGRAM, ROOT, Checks
 from sampled import is_same, lines_of, restore
 
 SCRIPT = os.path.join(ROOT, "catalogue", "import.sh")
-TABLES = "/usr/share/dbconfig-common/data/bacula-director-pgsql/install/pgsql"
+# The statements that make the Director's tables, of the package that is installed: only one of them can be.
+TABLES = "/usr/share/dbconfig-common/data/bacula-director-{0}/install/{0}"
 # Each client: its file set, whether it has Accurate, and the options of the file set.
 CLIENTS = {"mars": ("Home", "no", "signature = MD5"), "venus": ("Root", "yes", "signature = MD5; sparse = yes")}
 LEVELS = ["Full", "Differential", "Incremental", "Incremental"]
@@ -52,7 +54,7 @@ SECONDS = 120
 DIRECTOR = """
 Director {{ Name = test-dir; DIRport = {dir}; DirAddress = 127.0.0.1; QueryFile = "{top}/query.sql"; WorkingDirectory = "{top}/work"
   PidDirectory = "{top}/work"; Maximum Concurrent Jobs = 10; Password = "p"; Messages = Standard; }}
-Catalog {{ Name = Own; dbname = bacula; DB Address = "{socket}"; dbuser = bacula; dbpassword = ""; }}
+Catalog {{ Name = Own; dbname = bacula; {address} dbuser = bacula; dbpassword = ""; }}
 Storage {{ Name = Disk; Address = 127.0.0.1; SDPort = {sd}; Password = "p"; Device = Folder; Media Type = File; Maximum Concurrent Jobs = 10; }}
 Pool {{ Name = Default; Pool Type = Backup; Recycle = no; AutoPrune = no; Label Format = "Vol-"; Maximum Volume Bytes = {volume}; }}
 Messages {{ Name = Standard; append = "{top}/log" = all; }}
@@ -89,8 +91,23 @@ def tool(name):
 def missing():
     """Returns what is missing for this script, as words."""
     lacking = [it for it in ("bacula-dir", "bacula-sd", "bacula-fd", "bconsole", "tar", "sqlite3") if not tool(it)]
-    lacking += [] if os.path.exists(TABLES) else ["bacula-director-pgsql"]
-    return lacking + ([] if Postgres.program() else ["PostgreSQL"]) + ([] if os.geteuid() == 0 else ["root"])
+    lacking += [] if database() else ["bacula-director-pgsql or -sqlite3"]
+    lacking += ["PostgreSQL"] if database() == "pgsql" and not Postgres.program() else []
+    return lacking + ([] if os.geteuid() == 0 else ["root"])
+
+
+def database():
+    """Returns the database of the Director that is installed, or None."""
+    return next((it for it in ("pgsql", "sqlite3") if os.path.exists(TABLES.format(it))), None)
+
+
+class DirectorSqlite(Sqlite):
+    """A catalogue in the file that the Director keeps in its folder."""
+
+    def __init__(self, top):
+        super().__init__(top)
+        self.file = os.path.join(top, "work", "bacula.db")
+        self.words = ["--sqlite", self.file]
 
 
 def free_port():
@@ -109,9 +126,9 @@ class Site:
         self.ports = {"dir": free_port(), "sd": free_port(), **{name: free_port() for name in CLIENTS}}
         for name in ("work", "volumes", *CLIENTS, *(f"work-{it}" for it in CLIENTS)):
             os.mkdir(os.path.join(top, name))
-        self.database = Postgres()
+        self.database = Postgres() if database() == "pgsql" else DirectorSqlite(top)
         stops.callback(self.database.stop)
-        with open(TABLES) as text:
+        with open(TABLES.format(database())) as text:
             self.database.run(text.read())
         self.write_configuration()
         self.start("bacula-sd", "sd.conf", self.ports["sd"])
@@ -121,8 +138,8 @@ class Site:
 
     def write_configuration(self):
         """Writes a file for each daemon, and one for the console."""
-        volume, bandwidth = (1_000_000, 130) if self.is_small else (3_000_000, 2000)
-        values = {"top": self.top, "socket": self.database.folder, "volume": volume, "bandwidth": bandwidth, "half": bandwidth // 2, **self.ports}
+        address = f'DB Address = "{self.database.folder}";' if database() == "pgsql" else ""
+        values = {"top": self.top, "address": address, "volume": self.volume, **self.ports}
         director = DIRECTOR.format(**values)
         for name, (fileset, accurate, options) in CLIENTS.items():
             more = {"name": name, "port": self.ports[name], "fileset": fileset, "accurate": accurate, "options": options}
