@@ -76,4 +76,3 @@ rest_is p = ap (drop (length (front p))) (sym (cut_joins p)) ∙ drop_front (fro
 
 pub front_short : (p : List ℕ) → length (front p) + length (rest p) ≡ length p
 front_short p = sym (length-append (front p) (rest p)) ∙ ap length (cut_joins p)
-

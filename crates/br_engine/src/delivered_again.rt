@@ -10,7 +10,9 @@ ghost use Rattle.br_sink.specs.Delivery.{AreApart, items_in, stop_cause};
 ghost use Rattle.br_engine.specs.DeliveredAgain.{CanMake, DeliversAll, IsWindowOf, PutsAgain, PutsItemAgain, PutsTwoAgain};
 ghost use Rattle.br_engine.specs.Stopping.{IsChangedOnly, IsLostOnly, IsRestoreStop, IsStopAgain};
 
-use crate::restore_stop::{RestoreCause, RestoreStop, as_in_memory, cause_of_again, cause_of_parts};
+use crate::restore_stop::{
+    RestoreCause, RestoreStop, as_in_memory, cause_of_again, cause_of_parts,
+};
 use br_data::{OverMany, standing_stays};
 use br_join::Outcome;
 use br_reread_files::{Gathered, KeyedItem, TwoDone};
@@ -271,10 +273,7 @@ pub(crate) fn deliver_again<D: Drive, S: Sink>(
     };
     put_windows(rt, source, many, &outcomes[..place], sink)?;
     if place < outcomes.len() {
-        return Err(RestoreStop::new(
-            RestoreCause::Sink(StopCause::Conflict),
-            files,
-        ));
+        return Err(RestoreStop::new(RestoreCause::Sink(StopCause::Conflict), files));
     }
     Ok(())
 }

@@ -89,12 +89,7 @@ fn each<R: Threads + Wait + Sync>(
 }
 
 /// Runs a row.
-fn run<R: Threads + Wait + Sync>(
-    case: &mut Case,
-    threads: &R,
-    shelf: &mut Shelf,
-    fields: &[&str],
-) {
+fn run<R: Threads + Wait + Sync>(case: &mut Case, threads: &R, shelf: &mut Shelf, fields: &[&str]) {
     match fields {
         ["text", name, text] => shelf.add_text(case, name, text),
         ["volumes", volumes @ ..] => shelf.set_volumes(case, volumes),
@@ -104,12 +99,7 @@ fn run<R: Threads + Wait + Sync>(
 }
 
 /// Carries out the call of a row.
-fn run_call<R: Threads + Wait + Sync>(
-    case: &mut Case,
-    threads: &R,
-    shelf: &mut Shelf,
-    call: &str,
-) {
+fn run_call<R: Threads + Wait + Sync>(case: &mut Case, threads: &R, shelf: &mut Shelf, call: &str) {
     if let Some(fields) = fields_of(case, call) {
         run(case, threads, shelf, &fields);
     }

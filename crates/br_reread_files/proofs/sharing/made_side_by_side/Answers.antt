@@ -28,8 +28,7 @@ pub returns-clause-changed : goal.returns-clause-changed
 returns-clause-changed g c = λ is given.
     let runs = c.args.runs.now in
     let same : _ ≡ runs = c.in_ok-done.ensures.runs ∙ c.in_ok-works.ensures.runs in
-    c.finish_all.ensures.changed is
-    (
+    c.finish_all.ensures.changed is (
       subst (GivesRuns c.run_works.new.many) (sym same) (runs_kept c.standing_stays.ensures c.args.many.now c.run_works.new.many runs c.run_works.ensures.on given),
       c.in_ok-done.ensures.begun (subst (GivesRuns c.args.many.now) (sym c.in_ok-works.ensures.runs) given),
     )

@@ -41,8 +41,7 @@ returns-clause-changed g c = λ given is.
     (c.two_put.ensures.changed
     (read_same stays c.put_both-put.result many _ hits more one other _ _ _ _ _ _ _ _ _ _ _ _ c.open_two.ensures.on c.new.ensures c.new-2.ensures c.in-Ok.ensures.one
     c.in-Ok.ensures.other c.put_both-put.ensures.one c.put_both-put.ensures.other given)
-    is)
-    (
+    is) (
       opened_fits stays many _ hits one _ c.open_two.ensures.on c.in-Ok.ensures.one given.0,
       opened_fits stays many _ more other _ c.open_two.ensures.on c.in-Ok.ensures.other given.1,
     )
