@@ -5,4 +5,5 @@ pub mod StandingLaws
 pub mod ChoiceLaws
 pub mod DeskLaws
 pub mod DialogueLaws
+pub mod FixedLaws
 pub mod DrivenLaws

@@ -3,6 +3,7 @@ use Rattle.std.specs.Prelude.{◌≡◌, ℕ, nat_le, ◌&&◌, if◌then◌else
 use Rattle.std.specs.List.{AllByRecursion}
 use Rattle.br_model.specs.Volume.{Volume}
 use Rattle.br_types.specs.DecimalField.{number_spelled}
+use Rattle.br_console.specs.declared.fixed_drive.FixedDrive.{FixedDrive}
 
 -- a number as a number of drives, if it is from 1 to 16
 unfoldable pub drives_in_range : ℕ → Option ℕ
@@ -12,6 +13,6 @@ drives_in_range n = if nat_le 1 n && nat_le n 16 then Some n else None
 unfoldable pub drives_spelled : List ℕ → Option ℕ
 drives_spelled text = option_and_then drives_in_range (number_spelled 16 text)
 
--- each of the drives shows these volumes
-abbrev pub EachShows : List Volume → List (List Volume) → Type 0
-EachShows volumes drives = AllByRecursion (λ (shown : List Volume). shown ≡ volumes) drives
+-- each of the drives is over these volumes
+abbrev pub EachShows : List Volume → List FixedDrive → Type 0
+EachShows volumes drives = AllByRecursion (λ (drive : FixedDrive). drive.inner ≡ volumes) drives

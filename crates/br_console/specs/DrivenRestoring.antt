@@ -1,42 +1,30 @@
 -- Restores over a store of volumes.
-use Rattle.std.specs.Prelude.{◌≡◌, ℕ, List, length, map, Option, option_map, Some, None, Result}
-use Rattle.std.specs.List.{AllByRecursion, AllZip}
+use Rattle.std.specs.Prelude.{ℕ, List, replicate, Option, None, option_map, Result}
 use Rattle.br_model.specs.Volume.{Volume}
 use Rattle.br_model.specs.Bootstrap.{Group}
 use Rattle.br_model.specs.Restored.{Planned, planned_in}
-use Rattle.br_volume.specs.Drive.{OnlyGrows}
-use Rattle.br_engine.specs.Restoring.{Told}
 use Rattle.br_engine.specs.Extracting.{OverVolumes}
 use Rattle.br_engine.specs.Delivering.{Delivers}
+use Rattle.br_engine.specs.Restores.{Change}
 use Rattle.br_engine.specs.declared.restore_end.RestoreEnd.{RestoreEnd}
 use Rattle.br_engine.specs.declared.fault.ExtractFault.{ExtractFault}
 use Rattle.br_console.specs.declared.driven_store.DrivenRestore.{DrivenRestore}
 
--- the volumes of drives that report them
-abbrev pub some_shown : List (List Volume) → Told
-some_shown drives = map (λ (shown : List Volume). Some shown) drives
-
 -- The manifest of what a bootstrap gives was written, or there is a reason why not, over all
--- volumes that drives may be taken to show. There is this number of drives; each shows these
--- volumes at first, and the volumes only grow.
+-- volumes that each of this number of drives may be taken to show. Each of them shows these volumes,
+-- before and after. If the store does not report its volumes, neither does a drive.
 pub record IsRestored (volumes : Option (List Volume)) (count : ℕ) (groups : List Group) (names : Option (List Planned)) (before after : Option (List ℕ))
     (result : Result RestoreEnd ExtractFault) : Type 0 where
-  pub earlier : Told
-  pub later : Told
-  pub many : length earlier ≡ count
-  pub show : AllByRecursion (λ (shown : Option (List Volume)). shown ≡ volumes) earlier
-  pub grow : AllZip OnlyGrows earlier later
-  pub delivers : Delivers (λ holds. OverVolumes earlier later groups names holds) before after None None result
+  pub delivers : Delivers (λ holds. OverVolumes (replicate count volumes) (replicate count volumes) groups names holds) before after None None result
 
 -- the same for what is wanted
 abbrev pub RestoresWanted : Option (List Volume) → DrivenRestore → Option (List ℕ) → Option (List ℕ) → Result RestoreEnd ExtractFault → Type 0
 RestoresWanted volumes wanted before after result =
     IsRestored volumes wanted.drives wanted.bootstrap.now (option_map planned_in wanted.names) before after result
 
--- The manifest of what is wanted was written, or there is a reason why not, over all volumes that
--- some drives may be taken to show. The drives report these volumes at first, and the volumes only
--- grow.
-pub record RestoredBy (earlier : Told) (wanted : DrivenRestore) (before after : Option (List ℕ)) (result : Result RestoreEnd ExtractFault) : Type 0 where
-  pub later : Told
-  pub grow : AllZip OnlyGrows earlier later
-  pub delivers : Delivers (λ holds. OverVolumes earlier later wanted.bootstrap.now (option_map planned_in wanted.names) holds) before after None None result
+-- The manifest of what is wanted was written, and its files were put, if there is a sink; or there
+-- is a reason why not. That is over all volumes that each of the drives may be taken to show by
+-- what they show before and after.
+pub record RestoredBy (wanted : DrivenRestore) (seen : Change) (result : Result RestoreEnd ExtractFault) : Type 0 where
+  pub delivers : Delivers (λ holds. OverVolumes seen.old.told seen.new.told wanted.bootstrap.now (option_map planned_in wanted.names) holds)
+      seen.old.written seen.new.written seen.old.has seen.new.has result

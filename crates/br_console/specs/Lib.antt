@@ -14,5 +14,6 @@ pub mod ScriptJobs
 pub mod RestoreLine
 pub mod ScriptRestoring
 pub mod ScriptObeying
+pub mod FixedDrive
 pub mod DriveCount
 pub mod DrivenRestoring

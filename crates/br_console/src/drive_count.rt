@@ -3,8 +3,8 @@ ghost use Rattle.br_volume.specs.Memory.{volumes_of};
 ghost use Rattle.br_pool.specs.Pool.{AreDrives};
 ghost use Rattle.br_console.specs.DriveCount.{EachShows, drives_in_range, drives_spelled};
 
+use crate::fixed_drive::FixedDrive;
 use br_types::{VolName, read_number};
-use br_volume::BorrowedDrive;
 use std::alloc::{AllocError, Global};
 use std::marker::Model;
 
@@ -76,14 +76,14 @@ pub fn drives_over<'v>(
     alloc: Global,
     volumes: &'v [(VolName, Vec<u8>)],
     count: DriveCount,
-) -> Result<Vec<BorrowedDrive<'v>>, AllocError>
+) -> Result<Vec<FixedDrive<'v>>, AllocError>
     ensures many { IfOk result (λ drives. length drives.items ≡ count) }
     ensures few { IfOk result (λ drives. AreDrives drives.items) }
     ensures each { IfOk result (λ drives. EachShows (volumes_of volumes.now) drives.items) }
 {
     let mut drives = Vec::with_capacity(alloc, count.get())?;
     for _drive in 0..count.get() {
-        drives.push_reserved(BorrowedDrive::new(volumes));
+        drives.push_reserved(FixedDrive::new(volumes));
     }
     Ok(drives)
 }

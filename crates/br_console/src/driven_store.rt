@@ -1,13 +1,17 @@
 //! Volumes over which restores run while jobs are appended to them.
-ghost use Rattle.std.specs.Prelude.{map};
+ghost use Rattle.std.specs.Prelude.{◌≡◌, length, true};
+ghost use Rattle.std.specs.List.{list_all};
 ghost use Rattle.std.specs.Thread.{IsSync};
-ghost use Rattle.br_pool.specs.Pool.{AreDrives};
+ghost use Rattle.br_model.specs.BootstrapText.{is_group};
+ghost use Rattle.br_pool.specs.Pool.{AreDrives, StayInPlace};
+ghost use Rattle.br_engine.specs.Restores.{change};
 ghost use Rattle.br_console.specs.DrivenRestoring.{RestoredBy, RestoresWanted};
 
 use crate::drive_count::{DriveCount, drives_over};
+use crate::fixed_drive::FixedDrive;
 use br_bsr::Bootstrap;
 use br_engine::{Budget, ExtractFault, Restore, RestoreEnd, RestoreOrder};
-use br_sink::MemSink;
+use br_sink::{MemSink, Sink};
 use br_types::Names;
 use br_volume::{Drive, MemStore, VolumeStore};
 use std::io::Write;
@@ -41,26 +45,23 @@ pub trait DrivenStore: VolumeStore {
         ensures restored { RestoresWanted (Self.holds self.now) wanted.entry (W.contents writer.old) (W.contents writer.new) result };
 }
 
-/// Restores by these drives, writes the manifest and flushes it.
+/// Restores by these drives, as many as are wanted: writes the manifest and flushes it, and then
+/// delivers the files into the sink, if there is one.
 ///
 /// # Errors
 ///
 /// As `Restore::run` of br_engine.
-pub fn restore_by<T: Threads + Wait + Sync, D: Drive + Send + Drop, W: Write>(
+pub fn restore_by<T: Threads + Wait + Sync, D: Drive + Send, W: Write, S: Sink>(
     rt: &T,
-    budget: Budget,
-    drives: Vec<D>,
+    restore: &mut Restore<D, S>,
     wanted: DrivenRestore<'_>,
     writer: &mut W,
 ) -> Result<RestoreEnd, ExtractFault>
-    requires few { AreDrives drives.items }
-    ensures { RestoredBy (map D.shows drives.items) wanted.entry (W.contents writer.old) (W.contents writer.new) result }
+    requires few { AreDrives restore.old.drives.items }
+    requires many { length restore.old.drives.items ≡ wanted.drives }
+    ensures restored { RestoredBy wanted.entry (change D.Drive W.Write S.Sink (restore.old, writer.old) (restore.new, writer.new)) result }
+    ensures places { StayInPlace D.shows D.failures restore.old.drives.items restore.new.drives.items }
 {
-    let mut restore: Restore<D, MemSink> = Restore {
-        budget,
-        drives,
-        sink: None,
-    };
     let order = RestoreOrder::plain(wanted.bootstrap, wanted.names);
     match restore.run(rt, order, writer) {
         Ok(done) => Ok(done.end),
@@ -68,8 +69,15 @@ pub fn restore_by<T: Threads + Wait + Sync, D: Drive + Send + Drop, W: Write>(
     }
 }
 
+/// States that a text can state each group of a bootstrap.
+fn groups_are_valid(bootstrap: &Bootstrap)
+    ensures { list_all is_group bootstrap.now ≡ true }
+{
+    let _groups = bootstrap.groups();
+}
+
 impl DrivenStore for MemStore {
-    #[tactic(auto, using(crate::proofs::DrivenLaws::shown_restored, crate::proofs::DrivenLaws::no_drives))]
+    #[tactic(auto, using(crate::proofs::DrivenLaws::no_drives))]
     fn restore<T: Threads + Wait + Sync, W: Write>(
         &self,
         rt: &T,
@@ -77,7 +85,13 @@ impl DrivenStore for MemStore {
         wanted: DrivenRestore<'_>,
         writer: &mut W,
     ) -> Result<RestoreEnd, ExtractFault> {
+        groups_are_valid(wanted.bootstrap);
         let drives = drives_over(budget.alloc, self.volumes(), wanted.drives)?;
-        restore_by(rt, budget, drives, wanted, writer)
+        let mut restore: Restore<FixedDrive<'_>, MemSink> = Restore {
+            budget,
+            drives,
+            sink: None,
+        };
+        restore_by(rt, &mut restore, wanted, writer)
     }
 }

@@ -8,13 +8,14 @@
 //! console, line by line. `run_script` works in memory, and `run_script_over` with any catalogue
 //! and any store of volumes that has drives. Such a `DrivenStore` restores with a `DriveCount` of
 //! drives, each of which shows all of its volumes, while jobs may be appended to them. A store in
-//! memory is one.
+//! memory is one: each of its drives is a `FixedDrive`, over volumes that stay as they are.
 #![tactic(auto)]
 
 mod console_fault;
 mod drive_count;
 mod driven_store;
 mod ending;
+mod fixed_drive;
 mod forgetful;
 mod reply;
 mod restore_line;
@@ -35,6 +36,7 @@ pub use console_fault::ConsoleFault;
 pub use drive_count::{DriveCount, drives_over};
 pub use driven_store::{DrivenRestore, DrivenStore, restore_by};
 pub use ending::{ConsoleRun, End, LineVerdict, SessionEnd, SessionOutcome};
+pub use fixed_drive::FixedDrive;
 pub use forgetful::Forgetful;
 pub use running::{prepare, run_console};
 pub use script::ScriptEnd;
