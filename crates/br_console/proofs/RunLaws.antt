@@ -1,8 +1,9 @@
 -- A run of the console step by step: what each step says of the whole.
-use Rattle.std.proofs.Common.{◌≡◌, ℕ, Bool, true, false, cond, List, [], Option, Some, None, Result, Ok, Err, refl, ap, sym, subst, ◌∙◌, arith}
-use Rattle.std.specs.Prelude.{option_map, IfSome, ⊤}
+use Rattle.std.proofs.Common.{◌≡◌, ℕ, Bool, true, false, cond, List, [], ◌++◌, MatchOption, Option, Some, None, Result, Ok, Err, refl, ap, sym, subst, ◌∙◌, append_assoc, append-nil, arith}
+use Rattle.std.specs.Prelude.{option_map, ⊤}
 use Rattle.std.specs.Io.KnownBytes.{Appends, Keeps}
 use Rattle.std.proofs.KnownBytes.{Appends-nil, Appends-trans, Appends-kept}
+use Rattle.br_data.specs.BodyWritten.{AppendsFront}
 use Rattle.br_model.specs.Answer.{IsRefusal, refused_as}
 use Rattle.br_model.specs.Volume.{Volume}
 use Rattle.br_model.specs.Bootstrap.{Group, canonical}
@@ -39,10 +40,10 @@ use Rattle.br_engine.specs.declared.restore_end.RestoreEnd.{RestoreEnd}
 use Rattle.br_engine.specs.declared.restore_end.RestoreEnd.TheVariants as restore
 use Rattle.br_engine.specs.declared.fault.ExtractFault.{ExtractFault}
 use Rattle.br_engine.specs.declared.fault.ExtractFault.TheVariants as extract
-use Rattle.br_console.specs.ConsoleFault.{Refusal, OfPlan, OfPiece, EndlessAfterAll, IsBrokenOff, IsFree, IsNoPiece, cause, fault_number}
+use Rattle.br_console.specs.ConsoleFault.{Refusal, OfPlan, OfPiece, EndlessAfterAll, IsBrokenOff, IsNoPiece, cause, fault_number}
 use Rattle.br_console.specs.ConsoleEnding.{EndIs, are_accepted, is_done}
 use Rattle.br_console.specs.Talking.{are_answered, SessionOver, LeavesOver}
-use Rattle.br_console.specs.Running.{opening, begun, with_files, run_from, console_run, Answer, BecomesFault, Begins, BeginsOver, NoneStandForPlan, RefusesRun, RestoresOver, RestoresPlan, RunsOver, StopsAt, TellsOver, WritesPlan}
+use Rattle.br_console.specs.Running.{opening, begun, with_files, with_marks, with_plan, over_volumes, run_from, console_run, Answer, BecomesFault, Begins, BeginsOver, Begun, NoneStandForPlan, RefusesPlan, RefusesRun, RestoresOver, RestoresPlan, RunsOver, StopsAt, TellsOver, WritesPlan}
 use Rattle.br_console.specs.declared.console_fault.ConsoleFault.{ConsoleFault}
 use Rattle.br_console.specs.declared.console_fault.ConsoleFault.TheVariants as fault
 use Rattle.br_console.specs.declared.ending.LineVerdict.{LineVerdict}
@@ -116,6 +117,51 @@ marked_undone (Some text) left before after s t session talked leaves undone = r
   marks_are = ap (λ b. cond b (Some t.state.marked) None) (sym undone) ∙ leaves.marks;
 }
 
+-- ---- beginnings of what is written
+
+-- the beginning of a text is that of a longer one
+front_longer : (before after : Option (List ℕ)) (text more whole : List ℕ) → text ++ more ≡ whole → AppendsFront before after text → AppendsFront before after whole
+front_longer before after text more whole is (front, left, parted, written) =
+    (front, left ++ more, sym (append_assoc front left more) ∙ ap (λ (l : List ℕ). l ++ more) parted ∙ is, written)
+
+-- a text that was written, after which nothing was
+front_kept : (before now after : Option (List ℕ)) (text more whole : List ℕ) → text ++ more ≡ whole → Appends before now text → Keeps now after → AppendsFront before after whole
+front_kept before now after text more whole is written kept = (text, more, is, Appends-kept before now after text written kept)
+
+-- what follows a dialogue is written after it
+plan_follows : (text : List ℕ) (clean : Bool) (plan : Result Plan ℕ) → (more : List ℕ) × (text ++ more ≡ (with_plan text clean plan).text)
+plan_follows text clean (Ok plan) = (canonical plan.groups, refl)
+plan_follows text clean (Err n) = ([], append-nil text)
+
+marks_follow : (history : List JobRows) (q : Request) (text : List ℕ) (clean : Bool) (marks : Option (List (List ℕ)))
+    → (more : List ℕ) × (text ++ more ≡ (with_marks history q text clean marks).text)
+marks_follow history q text clean None = ([], append-nil text)
+marks_follow history q text clean (Some marks) = plan_follows text clean (plan_of history q marks)
+
+begun_follows : (history : List JobRows) (q : Request) (text : List ℕ) (s : Situation) → opening history q ≡ Ok s
+    → (more : List ℕ) × (dialogue s.view s.state (console_lines text) ++ more ≡ (begun history q text).text)
+unfolding begun
+begun_follows history q text s opened =
+    rw opened
+    (marks_follow history q (dialogue s.view s.state (console_lines text)) (are_answered s.view s.state (console_lines text))
+    (marks_at_done s.view s.state (console_lines text)))
+
+-- and what follows the bootstrap after that
+files_follow : (text : List ℕ) (clean : Bool) (files : Result (List Restored) model.PieceFault) → (more : List ℕ) × (text ++ more ≡ (with_files text clean files).text)
+files_follow text clean (Ok rs) = (manifest rs, refl)
+files_follow text clean (Err why) = ([], append-nil text)
+
+volumes_follow : (text : List ℕ) (clean : Bool) (volumes : List Volume) (plan : Result (Option Plan) ℕ) → (more : List ℕ) × (text ++ more ≡ (over_volumes text clean volumes plan).text)
+volumes_follow text clean volumes (Ok None) = ([], append-nil text)
+volumes_follow text clean volumes (Ok (Some plan)) = files_follow text clean (restored_files plan.groups (Some plan.names) volumes)
+volumes_follow text clean volumes (Err n) = ([], append-nil text)
+
+-- a beginning of what comes before drives are used is one of the whole run
+front_of_run : (before after : Option (List ℕ)) (b : Begun) (volumes : List Volume) → AppendsFront before after b.text → AppendsFront before after (run_from b volumes).text
+front_of_run before after b volumes h =
+    let p = volumes_follow b.text b.is_clean volumes b.plan in
+    front_longer before after b.text p.0 (run_from b volumes).text p.1 h
+
 -- ---- before a drive is asked
 
 -- the choice is refused, and nothing was written
@@ -125,19 +171,29 @@ unfolding begun
 begins_unchosen None before history q why refused = tt
 begins_unchosen (Some text) before history q why refused = go (plan.cause why) refused
   where
-    go : (r : Option ℕ) → IsRefusal r (opening history q) → IfSome r (λ n. ((begun history q text).plan ≡ Err n) × Appends before before (begun history q text).text)
-    go None h = tt
+    go : (r : Option ℕ) → IsRefusal r (opening history q) → RefusesPlan before before (begun history q text) r
+    go None h = ([], (begun history q text).text, refl, Appends-nil before)
     go (Some n) h = rw h (refl, Appends-nil before)
 
 -- the session was broken off
-pub begins_free : (known before after : Option (List ℕ)) (history : List JobRows) (q : Request) (why : ConsoleFault) → IsBrokenOff why → BeginsOver known before after history q (Err why)
-begins_free None before after history q why free = tt
-begins_free (Some text) before after history q fault.Memory free = tt
-begins_free (Some text) before after history q (fault.Plan why) free = absurd free
-begins_free (Some text) before after history q (fault.Piece why) free = absurd free
-begins_free (Some text) before after history q fault.Changed free = absurd free
-begins_free (Some text) before after history q (fault.Io why) free = tt
-begins_free (Some text) before after history q (fault.NoEnd turns) free = tt
+pub begins_broken : (known left before after : Option (List ℕ)) (history : List JobRows) (q : Request) (s : Situation) (why : ConsoleFault) → opening history q ≡ Ok s
+    → SessionOver known left before after s (Err why) → IsBrokenOff why → BeginsOver known before after history q (Err why)
+begins_broken None left before after history q s why opened talked free = tt
+begins_broken (Some text) left before after history q s why opened talked free = go why talked free
+  where
+    follows : (more : List ℕ) × (dialogue s.view s.state (console_lines text) ++ more ≡ (begun history q text).text)
+    follows = begun_follows history q text s opened
+
+    front : AppendsFront before after (dialogue s.view s.state (console_lines text)) → AppendsFront before after (begun history q text).text
+    front h = front_longer before after (dialogue s.view s.state (console_lines text)) follows.0 (begun history q text).text follows.1 h
+
+    go : (w : ConsoleFault) → SessionOver (Some text) left before after s (Err w) → IsBrokenOff w → Begins before after (begun history q text) (Err w)
+    go fault.Memory h f = front h
+    go (fault.Plan w) h f = absurd f
+    go (fault.Piece w) h f = absurd f
+    go fault.Changed h f = absurd f
+    go (fault.Io w) h f = tt
+    go (fault.NoEnd turns) h f = front h
 
 -- the dialogue did not end by `done`
 pub begins_undone : (known before after : Option (List ℕ)) (history : List JobRows) (q : Request) (s : Situation) (lines : LineVerdict) → opening history q ≡ Ok s
@@ -152,15 +208,19 @@ pub begins_unplanned : (known before now after : Option (List ℕ)) (history : L
     → BeginsOver known before after history q (Err why)
 unfolding begun
 begins_unplanned None before now after history q s lines marks why opened talked refused = tt
-begins_unplanned (Some text) before now after history q s lines marks fault.Memory opened talked refused = tt
+begins_unplanned (Some text) before now after history q s lines marks fault.Memory opened talked refused =
+    let follows = begun_follows history q text s opened in
+    front_kept before now after (dialogue s.view s.state (console_lines text)) follows.0 (begun history q text).text follows.1 talked.written refused
 begins_unplanned (Some text) before now after history q s lines marks (fault.Piece why) opened talked refused = absurd refused
 begins_unplanned (Some text) before now after history q s lines marks fault.Changed opened talked refused = absurd refused
 begins_unplanned (Some text) before now after history q s lines marks (fault.Io why) opened talked refused = tt
 begins_unplanned (Some text) before now after history q s lines marks (fault.NoEnd turns) opened talked refused = absurd refused
 begins_unplanned (Some text) before now after history q s lines marks (fault.Plan why) opened talked refused = go (plan.cause why) refused.0
   where
-    go : (r : Option ℕ) → IsRefusal r (plan_of history q marks) → IfSome r (λ n. ((begun history q text).plan ≡ Err n) × Appends before after (begun history q text).text)
-    go None h = tt
+    go : (r : Option ℕ) → IsRefusal r (plan_of history q marks) → RefusesPlan before after (begun history q text) r
+    go None h =
+        let follows = begun_follows history q text s opened in
+        front_kept before now after (dialogue s.view s.state (console_lines text)) follows.0 (begun history q text).text follows.1 talked.written refused.1
     go (Some n) h = rw (opened, ← talked.marks_are, h) (refl, Appends-kept before now after (dialogue s.view s.state (console_lines text)) talked.written refused.1)
 
 -- it was made, and its bootstrap written
@@ -213,17 +273,12 @@ module _ (earlier later : Told) (before after : Option (List ℕ)) (had has : In
   pub plan_refused : (e : ExtractFault) (why : ConsoleFault) → BecomesFault e why
       → Delivers (λ holds. OverVolumes earlier later plan.groups (Some plan.names) holds) before after had has (Err e)
       → RestoresPlan earlier later before after had has plan (Err why)
-  plan_refused extract.Memory why is h = rw is ((λ volumes stands. tt), tt, h.2)
+  plan_refused extract.Memory why is h = rw is ((λ volumes stands. tt), h.1, h.2)
   plan_refused (extract.Bootstrap e) why is h = absurd is
   plan_refused (extract.Piece e) why is h =
       rw is ((λ volumes stands. piece_is (pool.cause e) (restored_files plan.groups (Some plan.names) volumes) (h.0 volumes stands)), h.1, h.2)
   plan_refused extract.Changed why is h = rw is ((λ volumes stands. tt), h.1, h.2)
-  plan_refused (extract.Io e) fault.Memory is h = ((λ volumes stands. tt), tt, h.2)
-  plan_refused (extract.Io e) (fault.Plan why) is h = absurd is
-  plan_refused (extract.Io e) (fault.Piece why) is h = absurd is
-  plan_refused (extract.Io e) fault.Changed is h = absurd is
-  plan_refused (extract.Io e) (fault.Io why) is h = ((λ volumes stands. tt), tt, h.2)
-  plan_refused (extract.Io e) (fault.NoEnd turns) is h = absurd is
+  plan_refused (extract.Io e) why is h = rw is ((λ volumes stands. tt), tt, h.2)
   plan_refused (extract.NoEnd turns) why is h = absurd is
 
 -- that no drive is left stays so
@@ -232,12 +287,7 @@ no_drive_stays extract.Memory why is h = ap fault_number (sym is) ∙ h
 no_drive_stays (extract.Bootstrap e) why is h = absurd is
 no_drive_stays (extract.Piece e) why is h = ap fault_number (sym is) ∙ h
 no_drive_stays extract.Changed why is h = ap fault_number (sym is) ∙ h
-no_drive_stays (extract.Io e) fault.Memory is h = absurd cc
-no_drive_stays (extract.Io e) (fault.Plan why) is h = absurd is
-no_drive_stays (extract.Io e) (fault.Piece why) is h = absurd is
-no_drive_stays (extract.Io e) fault.Changed is h = absurd is
-no_drive_stays (extract.Io e) (fault.Io why) is h = absurd cc
-no_drive_stays (extract.Io e) (fault.NoEnd turns) is h = absurd is
+no_drive_stays (extract.Io e) why is h = ap fault_number (sym is) ∙ h
 no_drive_stays (extract.NoEnd turns) why is h = absurd is
 
 -- that a volume was changed stays so
@@ -246,7 +296,7 @@ change_stays extract.Memory why is h = let both : fault.Memory ≡ fault.Changed
 change_stays (extract.Bootstrap e) why is h = absurd is
 change_stays (extract.Piece e) why is h = let both : fault.Piece e ≡ fault.Changed = sym is ∙ h in absurd cc
 change_stays extract.Changed why is h = refl
-change_stays (extract.Io e) why is h = absurd (subst IsFree h is)
+change_stays (extract.Io e) why is h = let both : fault.Io e ≡ fault.Changed = sym is ∙ h in absurd cc
 change_stays (extract.NoEnd turns) why is h = absurd is
 
 -- there are no volumes for the bootstrap of a plan
@@ -290,12 +340,7 @@ restored_has_end extract.Memory why is = rw is tt
 restored_has_end (extract.Bootstrap e) why is = absurd is
 restored_has_end (extract.Piece e) why is = rw is tt
 restored_has_end extract.Changed why is = rw is tt
-restored_has_end (extract.Io e) fault.Memory is = tt
-restored_has_end (extract.Io e) (fault.Plan why) is = tt
-restored_has_end (extract.Io e) (fault.Piece why) is = tt
-restored_has_end (extract.Io e) fault.Changed is = tt
-restored_has_end (extract.Io e) (fault.Io why) is = tt
-restored_has_end (extract.Io e) (fault.NoEnd turns) is = absurd is
+restored_has_end (extract.Io e) why is = rw is tt
 restored_has_end (extract.NoEnd turns) why is = absurd is
 
 -- the number, if there is one
@@ -325,18 +370,19 @@ unfolding console_run
 runs_refused None earlier later before after history q why begins = tt
 runs_refused (Some text) earlier later before after history q why begins = λ volumes stands. by_fault volumes why begins
   where
-    go : (volumes : List Volume) (r : Option ℕ) → IfSome r (λ n. ((begun history q text).plan ≡ Err n) × Appends before after (begun history q text).text)
-        → RefusesRun before after (run_from (begun history q text) volumes) (option_map OfPlan r)
-    go volumes None h = tt
+    go : (volumes : List Volume) (r : Option ℕ) → RefusesPlan before after (begun history q text) r
+        → MatchOption (option_map OfPlan r) (AppendsFront before after (run_from (begun history q text) volumes).text)
+        (λ e. ((run_from (begun history q text) volumes).answer ≡ Err e) × Appends before after (run_from (begun history q text) volumes).text)
+    go volumes None h = front_of_run before after (begun history q text) volumes h
     go volumes (Some n) h = rw h.0 (refl, h.1)
 
-    by_fault : (volumes : List Volume) (w : ConsoleFault) → Begins before after (begun history q text) (Err w) → RefusesRun before after (run_from (begun history q text) volumes) (cause w)
-    by_fault volumes fault.Memory h = tt
+    by_fault : (volumes : List Volume) (w : ConsoleFault) → Begins before after (begun history q text) (Err w) → RefusesRun before after (run_from (begun history q text) volumes) w
+    by_fault volumes fault.Memory h = front_of_run before after (begun history q text) volumes h
     by_fault volumes (fault.Plan w) h = go volumes (plan.cause w) h
     by_fault volumes (fault.Piece w) h = absurd h
     by_fault volumes fault.Changed h = absurd h
     by_fault volumes (fault.Io w) h = tt
-    by_fault volumes (fault.NoEnd w) h = tt
+    by_fault volumes (fault.NoEnd w) h = front_of_run before after (begun history q text) volumes h
 
 -- without a plan nothing more
 pub runs_undone : (known : Option (List ℕ)) (earlier later : Told) (before after : Option (List ℕ)) (history : List JobRows) (q : Request) (lines : LineVerdict)
@@ -386,19 +432,25 @@ runs_stopped None earlier later before now after had has history q lines plan wh
 runs_stopped (Some text) earlier later before now after had has history q lines plan why begins made = λ volumes stands.
     by_fault volumes why (made.0 volumes (stands plan begins.1)) made.1
   where
+    front : (volumes : List Volume) → Keeps now after → AppendsFront before after (run_from (begun history q text) volumes).text
+    front volumes kept =
+        front_of_run before after (begun history q text) volumes
+        (front_kept before now after (begun history q text).text [] (begun history q text).text (append-nil (begun history q text).text) begins.2 kept)
+
     go : (volumes : List Volume) (r : Option model.PieceFault) → IsRefusal (option_map OfPiece r) (refused_as OfPiece (restored_files plan.groups (Some plan.names) volumes)) → Keeps now after
-        → RefusesRun before after (run_from (begun history q text) volumes) (option_map OfPiece r)
-    go volumes None h kept = tt
+        → MatchOption (option_map OfPiece r) (AppendsFront before after (run_from (begun history q text) volumes).text)
+        (λ e. ((run_from (begun history q text) volumes).answer ≡ Err e) × Appends before after (run_from (begun history q text) volumes).text)
+    go volumes None h kept = front volumes kept
     go volumes (Some e) h kept =
         let both = stopped (begun history q text).text (begun history q text).is_clean (restored_files plan.groups (Some plan.names) volumes) (OfPiece e) h in
         rw (begins.1, both.1) (both.0, Appends-kept before now after (begun history q text).text begins.2 kept)
 
     by_fault : (volumes : List Volume) (w : ConsoleFault) → IsRefusal (cause w) (refused_as OfPiece (restored_files plan.groups (Some plan.names) volumes)) → StopsAt now after w
-        → RefusesRun before after (run_from (begun history q text) volumes) (cause w)
-    by_fault volumes fault.Memory h s = tt
+        → RefusesRun before after (run_from (begun history q text) volumes) w
+    by_fault volumes fault.Memory h s = front volumes s
     by_fault volumes (fault.Plan w) h s = absurd s
     by_fault volumes (fault.Piece w) h s = go volumes (pool.cause w) h s
-    by_fault volumes fault.Changed h s = tt
+    by_fault volumes fault.Changed h s = front volumes s
     by_fault volumes (fault.Io w) h s = tt
     by_fault volumes (fault.NoEnd w) h s = absurd s
 
@@ -407,12 +459,12 @@ runs_stopped (Some text) earlier later before now after had has history q lines 
 pub tells_refused : (known before after : Option (List ℕ)) (history : List JobRows) (q : Request) (why : ConsoleFault) → BeginsOver known before after history q (Err why)
     → TellsOver known before after history q (Err why)
 tells_refused None before after history q why begins = tt
-tells_refused (Some text) before after history q fault.Memory begins = tt
+tells_refused (Some text) before after history q fault.Memory begins = begins
 tells_refused (Some text) before after history q (fault.Plan why) begins = begins
 tells_refused (Some text) before after history q (fault.Piece why) begins = absurd begins
 tells_refused (Some text) before after history q fault.Changed begins = absurd begins
 tells_refused (Some text) before after history q (fault.Io why) begins = tt
-tells_refused (Some text) before after history q (fault.NoEnd turns) begins = tt
+tells_refused (Some text) before after history q (fault.NoEnd turns) begins = begins
 
 pub tells_undone : (known before after : Option (List ℕ)) (history : List JobRows) (q : Request) (lines : LineVerdict) → BeginsOver known before after history q (Ok (lines, None))
     → TellsOver known before after history q (Ok (record { lines = lines; end = Quit }))
@@ -429,7 +481,8 @@ tells_restored (Some text) earlier later before now after had has history q line
 pub tells_stopped : (known before now after : Option (List ℕ)) (history : List JobRows) (q : Request) (lines : LineVerdict) (plan : Plan) (why : ConsoleFault)
     → BeginsOver known before now history q (Ok (lines, Some plan)) → StopsAt now after why → TellsOver known before after history q (Err why)
 tells_stopped None before now after history q lines plan why begins stops = tt
-tells_stopped (Some text) before now after history q lines plan fault.Memory begins stops = tt
+tells_stopped (Some text) before now after history q lines plan fault.Memory begins stops =
+    front_kept before now after (begun history q text).text [] (begun history q text).text (append-nil (begun history q text).text) begins.2 stops
 tells_stopped (Some text) before now after history q lines plan (fault.Plan why) begins stops = absurd stops
 tells_stopped (Some text) before now after history q lines plan (fault.Piece why) begins stops =
     (plan, begins.1, Appends-kept before now after (begun history q text).text begins.2 stops)

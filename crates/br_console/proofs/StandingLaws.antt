@@ -1,6 +1,6 @@
 -- What drives that show more than the volumes of the chosen jobs find of a plan.
 use Rattle.std.proofs.Common.{◌≡◌, ℕ, ◌+◌, ◌<◌, Bool, true, false, List, [], ◌∷◌, length, map, Option, Some, None, Result, Ok, Err, refl, sym, ap, subst, ◌∙◌, inr, arith}
-use Rattle.std.specs.Prelude.{Contains, flat_map, fold, max}
+use Rattle.std.specs.Prelude.{Contains, MatchOption, flat_map, fold, max}
 use Rattle.std.specs.Io.KnownBytes.{Appends}
 use Rattle.std.specs.List.{AllByRecursion, AllZip, enumerate_from}
 use Rattle.br_model.specs.Text.{is_empty}
@@ -26,8 +26,8 @@ use Rattle.br_volume.proofs.ExtendLaws.{extends_itself}
 use Rattle.br_mark.specs.Seen.{Situation}
 use Rattle.br_pool.specs.Pool.{StandsTold}
 use Rattle.br_engine.specs.Restoring.{Told, AllStand}
-use Rattle.br_console.specs.ConsoleFault.{Refusal, cause}
-use Rattle.br_console.specs.Running.{Run, Answer, RefusesRun, Runs, Shows, opening, begun, with_console, with_marks, with_plan, console_run}
+use Rattle.br_console.specs.ConsoleFault.{Refusal, WritesFront, cause}
+use Rattle.br_console.specs.Running.{Run, Answer, Runs, Shows, opening, begun, with_console, with_marks, with_plan, console_run}
 use Rattle.br_console.specs.Selecting.{AllHold, DrivesStandForPlans, RestoresAll, ReturnsAllOrFails, RunsMeanSelection, RunsRestoreSelection, ShowsMore}
 use Rattle.br_console.specs.declared.console_fault.ConsoleFault.{ConsoleFault}
 use Rattle.br_console.specs.declared.ending.ConsoleRun.{ConsoleRun}
@@ -147,9 +147,10 @@ drives_stand_for_plans_lem jobs q text volumes earlier later hold more plan is =
 -- ---- the run
 
 -- a run that restores all is not refused
-not_refused : (expected : Run) (answer : Answer) (before after : Option (List ℕ)) (why : Option Refusal) → expected.answer ≡ Ok answer → RefusesRun before after expected why → why ≡ None
-not_refused expected answer before after None is refuses = refl
-not_refused expected answer before after (Some why) is refuses = let both = sym is ∙ refuses.0 in absurd cc
+not_refused : (expected : Run) (answer : Answer) (before after : Option (List ℕ)) (broken : Type 0) (why : Option Refusal) → expected.answer ≡ Ok answer
+    → MatchOption why broken (λ e. (expected.answer ≡ Err e) × Appends before after expected.text) → why ≡ None
+not_refused expected answer before after broken None is refuses = refl
+not_refused expected answer before after broken (Some why) is refuses = let both = sym is ∙ refuses.0 in absurd cc
 
 -- what a run over the volumes returned
 returned : (jobs : List Job) (selected : List Entry) (text : List ℕ) (clean : Bool) (before after : Option (List ℕ)) (expected : Run) (result : Result ConsoleRun ConsoleFault)
@@ -161,7 +162,8 @@ returned jobs selected text clean before after expected (Ok run) all runs = reco
   are_copies = all.are_copies;
   are_all = all.are_all;
 }
-returned jobs selected text clean before after expected (Err why) all runs = not_refused expected (record { is_clean = clean; restored = Some true }) before after (cause why) all.answer_is runs
+returned jobs selected text clean before after expected (Err why) all runs =
+    not_refused expected (record { is_clean = clean; restored = Some true }) before after (WritesFront before after expected.text why) (cause why) all.answer_is runs
 
 -- drives that show more than the volumes of the chosen jobs, and the law of runs, give it
 pub runs_restore_selection_of : DrivesStandForPlans → RunsMeanSelection → RunsRestoreSelection

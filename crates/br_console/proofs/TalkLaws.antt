@@ -6,6 +6,8 @@ use Rattle.std.specs.Prelude.{is_some, is_err, ◌==◌, slice_index, nat_lt, fl
 use Rattle.std.specs.List.{slice_split, onto_first}
 use Rattle.std.specs.Io.KnownBytes.{Appends}
 use Rattle.std.specs.Io.BufRead.{take_through, drop_through, strip_last, first_piece}
+use Rattle.std.specs.declared.io.Error.{Error}
+use Rattle.br_data.specs.BodyWritten.{AppendsFront}
 use Rattle.br_model.specs.Answer.{◌>>=◌, refuse_if}
 use Rattle.br_model.specs.Text.{is_empty}
 use Rattle.br_model.specs.View.{Entry, view_paths}
@@ -13,8 +15,11 @@ use Rattle.br_model.specs.Console as model
 use Rattle.br_model.specs.Console.{apply, read_command, resolve, is_directory_of, cwd_line, some_of, matching, matches, last_component, says, child_line, found_line, meant, meant_directories, with_marks, without_marks, without_empty_end, console_lines, said, written, answer_of, after_answer, ends, ends_done, dialogue, marks_at_done}
 use Rattle.br_model.proofs.AnswerLaws.{bind_ok, refuse_ok, ok_is}
 use Rattle.br_mark.specs.Seen.{Situation}
+use Rattle.br_console.specs.ConsoleFault.{WritesFront}
 use Rattle.br_console.specs.Talking.{are_answered, console_after, lines_said, behind_lines, left_unsaid, SessionOver, marks_told, LeavesOver, ReadsLine}
 use Rattle.br_console.specs.ConsoleEnding.{are_accepted, is_done}
+use Rattle.br_console.specs.declared.console_fault.ConsoleFault.{ConsoleFault}
+use Rattle.br_console.specs.declared.console_fault.ConsoleFault.TheVariants as fault
 use Rattle.br_console.specs.declared.ending.SessionOutcome.{SessionOutcome}
 
 -- ---- the first line of a text
@@ -340,6 +345,30 @@ none_left (Some text) (Some []) later before now s t session line is_line so_far
     marks = ap (λ b. cond b (Some t.state.marked) None) undone ∙ sym so_far.marks;
   },
 )
+
+-- the session was broken off, and what was written so far begins its dialogue
+pub broken_off : (known left later before now : Option (List ℕ)) (s t : Situation) (clean : Bool) (why : ConsoleFault) → SoFar known left before now s t clean
+    → SessionOver known later before now s (Err why)
+broken_off None left later before now s t clean why so_far = tt
+broken_off (Some text) None later before now s t clean why so_far = absurd so_far
+broken_off (Some text) (Some rest) later before now s t clean why so_far = go why
+  where
+    front : AppendsFront before now (dialogue s.view s.state (console_lines text))
+    front = (so_far.shown, dialogue t.view t.state (console_lines rest), sym so_far.written_whole, so_far.appended)
+
+    go : (w : ConsoleFault) → WritesFront before now (dialogue s.view s.state (console_lines text)) w
+    go fault.Memory = front
+    go (fault.Plan e) = front
+    go (fault.Piece e) = front
+    go fault.Changed = front
+    go (fault.Io e) = tt
+    go (fault.NoEnd turns) = front
+
+-- a fault of writing says nothing of what was written
+pub failed_write : (known later before now : Option (List ℕ)) (s : Situation) (why : ConsoleFault) (error : Error) → why ≡ fault.Io error
+    → SessionOver known later before now s (Err why)
+failed_write None later before now s why error is = tt
+failed_write (Some text) later before now s why error is = rw is tt
 
 option_of : (b : Bool) (marks : List (List ℕ)) → is_some (cond b (Some marks) None) ≡ b
 option_of true marks = refl

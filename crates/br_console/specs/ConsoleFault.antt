@@ -2,6 +2,7 @@
 use Rattle.std.specs.Prelude.{◌≡◌, ℕ, ◌^◌, List, [], Option, Some, None, option_map, ⊤}
 use Rattle.std.specs.declared.io.ErrorKind.{ErrorKind}
 use Rattle.std.specs.declared.io.ErrorKind.TheVariants.{OutOfMemory}
+use Rattle.br_data.specs.BodyWritten.{AppendsFront}
 use Rattle.br_model.specs.Text.{refused_line}
 use Rattle.br_model.specs.Meaning as model
 use Rattle.br_plan.specs.Fault as plan
@@ -81,7 +82,15 @@ EndlessAfterAll Changed = ⊤
 EndlessAfterAll (Io fault) = ⊤
 EndlessAfterAll (NoEnd turns) = turns ≡ 2 ^ 40
 
--- a fault of reading or writing is reported with its kind; if that is memory, as memory that ran
--- out
-abbrev pub IsStreamFault : ErrorKind → ConsoleFault → ConsoleFault → Type 0
-IsStreamFault kind told e = IsFree e × (kind ≡ OutOfMemory → e ≡ Memory) × (¬ (kind ≡ OutOfMemory) → e ≡ told)
+-- a fault of reading is reported with its kind; if that is memory, as memory that ran out
+abbrev pub IsReadFault : ErrorKind → ConsoleFault → ConsoleFault → Type 0
+IsReadFault kind told e = IsFree e × (kind ≡ OutOfMemory → e ≡ Memory) × (¬ (kind ≡ OutOfMemory) → e ≡ told)
+
+-- unless reading or writing failed, what was written is a beginning of this text
+abbrev pub WritesFront : Option (List ℕ) → Option (List ℕ) → List ℕ → ConsoleFault → Type 0
+WritesFront before after text Memory = AppendsFront before after text
+WritesFront before after text (Plan fault) = AppendsFront before after text
+WritesFront before after text (Piece fault) = AppendsFront before after text
+WritesFront before after text Changed = AppendsFront before after text
+WritesFront before after text (Io fault) = ⊤
+WritesFront before after text (NoEnd turns) = AppendsFront before after text

@@ -1,7 +1,8 @@
 -- A run of the console: from a history and the lines of a dialogue to a bootstrap, and over volumes
 -- to a manifest. It says what is appended to what the writer held, and what is returned or refused.
-use Rattle.std.specs.Prelude.{◌≡◌, ℕ, Bool, true, List, [], ◌++◌, map, Option, Some, None, IfSome, Result, Ok, Err, ⊤}
+use Rattle.std.specs.Prelude.{◌≡◌, ℕ, Bool, true, List, [], ◌++◌, map, Option, Some, None, MatchOption, Result, Ok, Err, ⊤}
 use Rattle.std.specs.Io.KnownBytes.{Appends, Keeps}
+use Rattle.br_data.specs.BodyWritten.{AppendsFront}
 use Rattle.br_model.specs.Answer.{◌>>=◌, refused_as, IsRefusal}
 use Rattle.br_model.specs.Volume.{Volume}
 use Rattle.br_model.specs.Bootstrap.{canonical}
@@ -22,7 +23,7 @@ use Rattle.br_engine.specs.Delivering.{EndsWith}
 use Rattle.br_engine.specs.declared.restore_end.RestoreEnd.{RestoreEnd}
 use Rattle.br_engine.specs.declared.fault.ExtractFault.{ExtractFault}
 use Rattle.br_engine.specs.declared.fault.ExtractFault.TheVariants as extract
-use Rattle.br_console.specs.ConsoleFault.{IsFree, Refusal, OfPlan, OfPiece, cause, fault_number}
+use Rattle.br_console.specs.ConsoleFault.{Refusal, OfPlan, OfPiece, WritesFront, cause, fault_number}
 use Rattle.br_console.specs.ConsoleEnding.{EndIs, are_accepted}
 use Rattle.br_console.specs.Talking.{are_answered}
 use Rattle.br_console.specs.declared.console_fault.ConsoleFault.{ConsoleFault}
@@ -107,16 +108,17 @@ abbrev pub Shows : ConsoleRun → Answer → Type 0
 Shows run answer = (are_accepted run.lines ≡ answer.is_clean) × EndIs run.end answer.restored
 
 -- The refusal is the expected one, and what is expected was appended to what the writer held. There
--- is no refusal to compare if memory ran out, no drive is left, a volume was changed, or reading or
--- writing failed, which may happen at any time.
-abbrev pub RefusesRun : Option (List ℕ) → Option (List ℕ) → Run → Option Refusal → Type 0
-RefusesRun before after expected None = ⊤
-RefusesRun before after expected (Some why) = (expected.answer ≡ Err why) × Appends before after expected.text
+-- is no refusal to compare if memory ran out, no drive is left, a volume was changed, the lines have
+-- no end, or reading or writing failed, which may happen at any time. Then a beginning of what is
+-- expected was appended, unless reading or writing failed.
+abbrev pub RefusesRun : Option (List ℕ) → Option (List ℕ) → Run → ConsoleFault → Type 0
+RefusesRun before after expected why =
+    MatchOption (cause why) (WritesFront before after expected.text why) (λ e. (expected.answer ≡ Err e) × Appends before after expected.text)
 
 -- what is returned is as expected, and what is expected was appended to what the writer held
 abbrev pub Runs : Option (List ℕ) → Option (List ℕ) → Result ConsoleRun ConsoleFault → Run → Type 0
 Runs before after (Ok run) expected = (answer : Answer) × (expected.answer ≡ Ok answer) × Shows run answer × Appends before after expected.text
-Runs before after (Err why) expected = RefusesRun before after expected (cause why)
+Runs before after (Err why) expected = RefusesRun before after expected why
 
 -- each of the drives may be taken to show these volumes, for the pieces of the plan if there is one
 abbrev pub AllStandForPlan : Told → Told → Begun → List Volume → Type 0
@@ -144,16 +146,23 @@ Ends before after b Quit = (b.plan ≡ Ok None) × Appends before after b.text
 Ends before after b (Done end) =
     (plan : Plan) × (rs : List Restored) × (b.plan ≡ Ok (Some plan)) × EndTells end rs × Appends before after (b.text ++ manifest rs)
 
+-- The choice or the plan is refused with this number, and what comes before it was written. If
+-- memory ran out for it, a beginning of what is written before a drive is used was written.
+abbrev pub RefusesPlan : Option (List ℕ) → Option (List ℕ) → Begun → Option ℕ → Type 0
+RefusesPlan before after b None = AppendsFront before after b.text
+RefusesPlan before after b (Some n) = (b.plan ≡ Err n) × Appends before after b.text
+
 -- Whatever the drives do, what is written before one is used was written first. Nothing more is
--- written if the choice or the plan is refused, a piece by any fault, or a volume was changed.
+-- written if the choice or the plan is refused, a piece by any fault, or a volume was changed. If
+-- memory ran out, or the lines have no end, a beginning of it was written, and nothing else.
 abbrev pub Tells : Option (List ℕ) → Option (List ℕ) → Begun → Result ConsoleRun ConsoleFault → Type 0
 Tells before after b (Ok run) = (b.is_clean ≡ are_accepted run.lines) × Ends before after b run.end
-Tells before after b (Err fault.Memory) = ⊤
-Tells before after b (Err (fault.Plan why)) = IfSome (plan.cause why) (λ n. (b.plan ≡ Err n) × Appends before after b.text)
+Tells before after b (Err fault.Memory) = AppendsFront before after b.text
+Tells before after b (Err (fault.Plan why)) = RefusesPlan before after b (plan.cause why)
 Tells before after b (Err (fault.Piece why)) = (plan : Plan) × (b.plan ≡ Ok (Some plan)) × Appends before after b.text
 Tells before after b (Err fault.Changed) = (plan : Plan) × (b.plan ≡ Ok (Some plan)) × Appends before after b.text
 Tells before after b (Err (fault.Io why)) = ⊤
-Tells before after b (Err (fault.NoEnd turns)) = ⊤
+Tells before after b (Err (fault.NoEnd turns)) = AppendsFront before after b.text
 
 -- the same if the reader reports its bytes
 abbrev pub TellsOver : Option (List ℕ) → Option (List ℕ) → Option (List ℕ) → List JobRows → Request → Result ConsoleRun ConsoleFault → Type 0
@@ -162,26 +171,28 @@ TellsOver None before after history q result = ⊤
 
 -- ---- the steps of a run
 
--- the plan for the marks was made and its bootstrap written; or it is refused, and nothing was written
+-- The plan for the marks was made and its bootstrap written. Or it is refused or memory ran out, and
+-- nothing was written.
 abbrev pub WritesPlan : Option (List ℕ) → Option (List ℕ) → Result Plan ℕ → Result Plan ConsoleFault → Type 0
 WritesPlan before after expected (Ok plan) = (expected ≡ Ok plan) × Appends before after (canonical plan.groups)
-WritesPlan before after expected (Err fault.Memory) = ⊤
+WritesPlan before after expected (Err fault.Memory) = Keeps before after
 WritesPlan before after expected (Err (fault.Plan why)) = IsRefusal (plan.cause why) expected × Keeps before after
 WritesPlan before after expected (Err (fault.Piece why)) = ⊥
 WritesPlan before after expected (Err fault.Changed) = ⊥
 WritesPlan before after expected (Err (fault.Io why)) = ⊤
 WritesPlan before after expected (Err (fault.NoEnd turns)) = ⊥
 
--- what is expected before a drive is used was written, with the expected lines and plan; or the
--- choice or the plan is refused as expected
+-- What is expected before a drive is used was written, with the expected lines and plan. Or the
+-- choice or the plan is refused as expected. If memory ran out, or the lines have no end, a beginning
+-- of it was written.
 abbrev pub Begins : Option (List ℕ) → Option (List ℕ) → Begun → Result (LineVerdict × Option Plan) ConsoleFault → Type 0
 Begins before after b (Ok made) = (b.is_clean ≡ are_accepted made.0) × (b.plan ≡ Ok made.1) × Appends before after b.text
-Begins before after b (Err fault.Memory) = ⊤
-Begins before after b (Err (fault.Plan why)) = IfSome (plan.cause why) (λ n. (b.plan ≡ Err n) × Appends before after b.text)
+Begins before after b (Err fault.Memory) = AppendsFront before after b.text
+Begins before after b (Err (fault.Plan why)) = RefusesPlan before after b (plan.cause why)
 Begins before after b (Err (fault.Piece why)) = ⊥
 Begins before after b (Err fault.Changed) = ⊥
 Begins before after b (Err (fault.Io why)) = ⊤
-Begins before after b (Err (fault.NoEnd turns)) = ⊤
+Begins before after b (Err (fault.NoEnd turns)) = AppendsFront before after b.text
 
 -- the same if the reader reports its bytes
 abbrev pub BeginsOver : Option (List ℕ) → Option (List ℕ) → Option (List ℕ) → List JobRows → Request → Result (LineVerdict × Option Plan) ConsoleFault → Type 0
@@ -197,9 +208,9 @@ abbrev pub OverPlan : Told → Told → Plan → Said → Type 0
 OverPlan earlier later plan holds =
     (volumes : List Volume) → AllStand earlier later (pieces_of plan.groups) volumes → holds (restored_files plan.groups (Some plan.names) volumes)
 
--- after the fault of a piece, or if a volume was changed, nothing was written
+-- after the fault of a piece, if a volume was changed or memory ran out, nothing was written
 abbrev pub StopsAt : Option (List ℕ) → Option (List ℕ) → ConsoleFault → Type 0
-StopsAt before after fault.Memory = ⊤
+StopsAt before after fault.Memory = Keeps before after
 StopsAt before after (fault.Plan why) = ⊥
 StopsAt before after (fault.Piece why) = Keeps before after
 StopsAt before after fault.Changed = Keeps before after
@@ -214,14 +225,13 @@ RestoresPlan earlier later before after had has plan (Ok end) =
 RestoresPlan earlier later before after had has plan (Err why) =
     OverPlan earlier later plan (λ expected. IsRefusal (cause why) (refused_as OfPiece expected)) × StopsAt before after why × (has ≡ had)
 
--- the fault of a restore as one of a run: memory that ran out for reading or writing is reported as
--- such
+-- the fault of a restore as one of a run
 abbrev pub BecomesFault : ExtractFault → ConsoleFault → Type 0
 BecomesFault extract.Memory why = why ≡ fault.Memory
 BecomesFault (extract.Bootstrap e) why = ⊥
 BecomesFault (extract.Piece e) why = why ≡ fault.Piece e
 BecomesFault extract.Changed why = why ≡ fault.Changed
-BecomesFault (extract.Io e) why = IsFree why
+BecomesFault (extract.Io e) why = why ≡ fault.Io e
 BecomesFault (extract.NoEnd turns) why = ⊥
 
 -- each drive failed

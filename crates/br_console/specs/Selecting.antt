@@ -80,7 +80,8 @@ pub record ReturnsAll (jobs : List Job) (selected : List Entry) (text : List ℕ
   pub are_copies : AllZip (IsCopy jobs) (by_key selected) copies
   pub are_all : IsPermutation selected (by_key selected)
 
--- the run did this, unless memory ran out, no drive was left, or reading or writing failed
+-- the run did this, unless memory ran out, no drive was left, a volume was changed, the lines have no
+-- end, or reading or writing failed
 abbrev pub ReturnsAllOrFails : List Job → List Entry → List ℕ → Bool → Option (List ℕ) → Option (List ℕ)
     → Result ConsoleRun ConsoleFault → Type 0
 ReturnsAllOrFails jobs selected text clean before after (Ok run) = ReturnsAll jobs selected text clean before after run

@@ -10,6 +10,7 @@ use Rattle.br_model.specs.View.{Entry}
 use Rattle.br_model.specs.Console as model
 use Rattle.br_model.specs.Console.{said, written, answer_of, after_answer, ends, console_lines, dialogue, marks_at_done}
 use Rattle.br_mark.specs.Seen.{Situation}
+use Rattle.br_console.specs.ConsoleFault.{WritesFront}
 use Rattle.br_console.specs.declared.console_fault.ConsoleFault.{ConsoleFault}
 use Rattle.br_console.specs.declared.reply.ConsoleReply.{ConsoleReply}
 use Rattle.br_console.specs.declared.reply.ConsoleReply.TheVariants.{Text, Refused, Done, Quit}
@@ -58,10 +59,11 @@ pub record IsSessionOf (text : List ℕ) (left before after : Option (List ℕ))
   pub clean : are_accepted session.lines ≡ are_answered s.view s.state (console_lines text)
   pub unsaid : left ≡ Some (left_unsaid s text)
 
--- if the reader reports its bytes, a session that did not fail is that of their lines
+-- If the reader reports its bytes, a session that did not fail is that of their lines. Of one that
+-- failed, what was written is a beginning of its dialogue, unless reading or writing failed.
 abbrev pub SessionOver : Option (List ℕ) → Option (List ℕ) → Option (List ℕ) → Option (List ℕ) → Situation → Result SessionOutcome ConsoleFault → Type 0
 SessionOver (Some text) left before after s (Ok session) = IsSessionOf text left before after s session
-SessionOver (Some text) left before after s (Err fault) = ⊤
+SessionOver (Some text) left before after s (Err fault) = WritesFront before after (dialogue s.view s.state (console_lines text)) fault
 SessionOver None left before after s result = ⊤
 
 -- what a session changes: the bytes that the reader has left, and those that the writer holds

@@ -1,6 +1,6 @@
 ghost use Rattle.std.specs.Prelude.{◌≡◌, ◌++◌, OnOk};
 ghost use Rattle.std.specs.IoError.{error_kind};
-ghost use Rattle.br_console.specs.ConsoleFault.{fault_number, fault_text, IsStreamFault};
+ghost use Rattle.br_console.specs.ConsoleFault.{fault_number, fault_text, IsReadFault};
 ghost use Rattle.br_console.specs.declared.console_fault.ConsoleFault.TheVariants.{Memory, Plan, Piece, Io};
 ghost use Rattle.br_console.specs.declared.console_fault.ConsoleFault.TheVariants as of;
 
@@ -57,16 +57,11 @@ impl From<PoolFault> for ConsoleFault {
     }
 }
 
-/// A fault of reading or writing because memory ran out is `Memory`.
 impl From<io::Error> for ConsoleFault {
-    ghost from_gives = { λ fault e. IsStreamFault (error_kind fault) (Io fault) e };
+    ghost from_gives = { λ fault e. e ≡ Io fault };
 
     fn from(fault: io::Error) -> ConsoleFault {
-        if fault.kind() == ErrorKind::OutOfMemory {
-            ConsoleFault::Memory
-        } else {
-            ConsoleFault::Io(fault)
-        }
+        ConsoleFault::Io(fault)
     }
 }
 
@@ -79,6 +74,18 @@ impl From<NoEnd> for ConsoleFault {
 }
 
 impl ConsoleFault {
+    /// Returns the fault of a session whose lines can't be read: `Memory` if memory ran out for one,
+    /// else `Io`.
+    pub(crate) fn of_reading(fault: io::Error) -> ConsoleFault
+        ensures { IsReadFault (error_kind fault) (Io fault) result }
+    {
+        if fault.kind() == ErrorKind::OutOfMemory {
+            ConsoleFault::Memory
+        } else {
+            ConsoleFault::Io(fault)
+        }
+    }
+
     /// Returns the number of the refusal: 1 out of memory, 50, 53 or 54 no jobs to choose, 51
     /// nothing marked, 10 to 12 and 14 a volume, 70 no drive left, 72 a volume that was changed. A
     /// fault of reading or writing is no refusal, and neither are lines without an end.

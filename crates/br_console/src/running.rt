@@ -95,7 +95,7 @@ fn console_fault(fault: ExtractFault) -> ConsoleFault
         ExtractFault::Memory => ConsoleFault::Memory,
         ExtractFault::Piece(fault) => ConsoleFault::Piece(fault),
         ExtractFault::Changed => ConsoleFault::Changed,
-        ExtractFault::Io(fault) => ConsoleFault::from(fault),
+        ExtractFault::Io(fault) => ConsoleFault::Io(fault),
         ExtractFault::Bootstrap(_) | ExtractFault::NoEnd(_) => unreachable!(),
     }
 }
@@ -114,8 +114,9 @@ fn console_fault(fault: ExtractFault) -> ConsoleFault
 ///   if nothing is marked (51).
 /// - `Piece` after the bootstrap for the first volume that can't be read, or if no drive is left.
 /// - `Changed` after the bootstrap if a volume was changed while it was read.
-/// - `Memory` and `Io` as in a session, at any time, and `NoEnd` as in a session; then a part of a text may
-///   have been written.
+/// - `Memory` at any time, and `NoEnd` as in a session; then a beginning of the dialogue and the bootstrap
+///   was written, and nothing else.
+/// - `Io` at any time; then a part of a text may have been written.
 ///
 /// After an error nothing is put into the sink.
 pub fn run_console<R: BufRead + Drop, D: Drive + Send, W: Flush, S: Sink>(

@@ -58,9 +58,13 @@ fn read_line<R: BufRead, W: Flush>(
     let _writer = writer;
     turns.take()?;
     line.clear();
-    let len = reader.read_until(b'\n', line)?;
-    drop_feed(line);
-    Ok(len > 0)
+    match reader.read_until(b'\n', line) {
+        Ok(len) => {
+            drop_feed(line);
+            Ok(len > 0)
+        }
+        Err(fault) => Err(ConsoleFault::of_reading(fault)),
+    }
 }
 
 /// Runs a console session: reads line after line, of any length, gives each to the console, and
@@ -75,7 +79,8 @@ fn read_line<R: BufRead, W: Flush>(
 /// - `Io` if the reader or the writer failed.
 /// - `NoEnd` if the reader has not ended after 2^40 lines.
 ///
-/// After an error a part of an answer may have been written.
+/// After `Memory` and `NoEnd` the writer has the answers to the first lines, and nothing else. After
+/// `Io` it may have a part of an answer, too.
 pub fn converse<R: BufRead + Drop, W: Flush>(
     alloc: Global,
     console: &mut Console<'_>,

@@ -2,7 +2,7 @@ use Rattle.std.proofs.Common.{◌∙◌, ap, refl}
 use Rattle.std.proofs.lemmas.Result.{err_from_is_err_and}
 use Rattle.br_model.specs.Plan.{plan_of}
 use Rattle.br_console.specs.ConsoleEnding.{is_done}
-use Rattle.br_console.proofs.RunLaws.{begins_unchosen, begins_undone, begins_unplanned, begins_planned, marked_done, marked_undone, opening_views, unplanned_has_end, was_chosen}
+use Rattle.br_console.proofs.RunLaws.{begins_broken, begins_unchosen, begins_undone, begins_unplanned, begins_planned, marked_done, marked_undone, opening_views, unplanned_has_end, was_chosen}
 use Rattle.br_console.proofs.running.prepare.Goals as goal
 
 -- the tree's entries are still those of the chosen jobs, since a dialogue changes marks alone
@@ -16,6 +16,14 @@ returns-in_err-console-clause-begins g c =
     let p = err_from_is_err_and c.from_residual.result c.from_residual.ensures.1 in
     rw (p.1, p.2)
     (begins_unchosen (g.R.Read.remaining c.args.reader.now) (g.W.Write.contents c.args.writer.now) c.args.asked.now.history c.args.asked.now.request c.in_err-console.field-0.0 c.in_err-console.ensures)
+
+pub returns-in_err-session-clause-begins : goal.returns-in_err-session-clause-begins
+returns-in_err-session-clause-begins g c =
+    let p = err_from_is_err_and c.from_residual-in_err-session.result c.from_residual-in_err-session.ensures.1 in
+    rw (p.1, p.2)
+    (begins_broken (g.R.Read.remaining c.args.reader.now) (g.R.Read.remaining c.converse.new.reader) (g.W.Write.contents c.args.writer.now)
+    (g.W.Write.contents c.converse.new.writer) c.args.asked.now.history c.args.asked.now.request c.in_ok-console.console c.in_err-session.field-0.0 c.in_ok-console.ensures
+    c.in_err-session.ensures.session c.in_err-session.ensures.free)
 
 pub returns-in-Quit-clause-begins : goal.returns-in-Quit-clause-begins
 returns-in-Quit-clause-begins g c =

@@ -1,7 +1,40 @@
 use Rattle.std.proofs.Common.{◌&&◌, Bool, not, ap, sym, subst, ◌∙◌}
 use Rattle.br_console.specs.Talking.{replied}
-use Rattle.br_console.proofs.TalkLaws.{SoFar, none_left, one_ends, one_more, turn}
+use Rattle.std.proofs.lemmas.Result.{err_from_is_err_and}
+use Rattle.br_console.proofs.TalkLaws.{SoFar, broken_off, failed_write, none_left, one_ends, one_more, turn}
 use Rattle.br_console.proofs.talking.converse.Goals as goal
+
+-- ---- the session is broken off
+
+pub returns-in_err-read_line-clause-session : goal.returns-in_err-read_line-clause-session
+returns-in_err-read_line-clause-session g c =
+    let p = err_from_is_err_and c.from_residual.result c.from_residual.ensures.1 in
+    rw p.1
+    (broken_off (g.R.Read.remaining c.args.reader.now) (g.R.Read.remaining c.loop-line.reader) (g.R.Read.remaining c.read_line.new.reader) (g.W.Write.contents c.args.writer.now)
+    (g.W.Write.contents c.loop-line.writer) c.args.console.now c.loop-line.console c.loop-line.is_clean p.0 c.loop-line.invariant.0)
+
+pub returns-in_err-reply-clause-session : goal.returns-in_err-reply-clause-session
+returns-in_err-reply-clause-session g c =
+    let p = err_from_is_err_and c.from_residual-in_err-reply.result c.from_residual-in_err-reply.ensures.1 in
+    rw p.1
+    (broken_off (g.R.Read.remaining c.args.reader.now) (g.R.Read.remaining c.loop-line.reader) (g.R.Read.remaining c.read_line.new.reader) (g.W.Write.contents c.args.writer.now)
+    (g.W.Write.contents c.loop-line.writer) c.args.console.now c.loop-line.console c.loop-line.is_clean p.0 c.loop-line.invariant.0)
+
+pub returns-in_err-into_text-clause-session : goal.returns-in_err-into_text-clause-session
+returns-in_err-into_text-clause-session g c =
+    let p = err_from_is_err_and c.from_residual-in_err-into_text.result c.from_residual-in_err-into_text.ensures.1 in
+    rw p.1
+    (broken_off (g.R.Read.remaining c.args.reader.now) (g.R.Read.remaining c.loop-line.reader) (g.R.Read.remaining c.read_line.new.reader) (g.W.Write.contents c.args.writer.now)
+    (g.W.Write.contents c.loop-line.writer) c.args.console.now c.loop-line.console c.loop-line.is_clean p.0 c.loop-line.invariant.0)
+
+pub returns-in_err-show-clause-session : goal.returns-in_err-show-clause-session
+returns-in_err-show-clause-session g c =
+    let p = err_from_is_err_and c.from_residual-in_err-show.result c.from_residual-in_err-show.ensures.1 in
+    rw p.1
+    (failed_write (g.R.Read.remaining c.args.reader.now) (g.R.Read.remaining c.read_line.new.reader) (g.W.Write.contents c.args.writer.now)
+    (g.W.Write.contents c.show.new.writer) c.args.console.now p.0 _ p.2)
+
+-- ---- it ends
 
 pub returns-then-not-branch : goal.returns-then-not-branch
 returns-then-not-branch g c =
