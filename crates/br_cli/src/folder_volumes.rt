@@ -5,8 +5,9 @@ ghost use Rattle.br_volume.specs.HostDrives.{AreOver, AreUntold};
 ghost use Rattle.br_cli.specs.Serving.{IsFolder};
 
 use br_console::{DriveCount, DrivenRestore, DrivenStore, restore_by};
-use br_engine::{Budget, ExtractFault, RestoreEnd};
+use br_engine::{Budget, ExtractFault, Restore, RestoreEnd};
 use br_fs::HostDisk;
+use br_sink::MemSink;
 use br_types::VolName;
 use br_volume::{FolderStore, HostDrive, VolumeFault, VolumeStore, drives_over};
 use std::alloc::AllocError;
@@ -62,7 +63,7 @@ impl VolumeStore for FolderVolumes<'_> {
 }
 
 impl DrivenStore for FolderVolumes<'_> {
-    #[tactic(auto, using(crate::proofs::VolumesLaws::restored_untold, crate::proofs::VolumesLaws::no_drives))]
+    #[tactic(auto, using(br_console::proofs::DrivenLaws::no_drives))]
     fn restore<T: Threads + Wait + Sync, W: Write>(
         &self,
         rt: &T,
@@ -71,6 +72,11 @@ impl DrivenStore for FolderVolumes<'_> {
         writer: &mut W,
     ) -> Result<RestoreEnd, ExtractFault> {
         let drives = self.drives(wanted.drives)?;
-        restore_by(rt, budget, drives, wanted, writer)
+        let mut restore: Restore<HostDrive<'_>, MemSink> = Restore {
+            budget,
+            drives,
+            sink: None,
+        };
+        restore_by(rt, &mut restore, wanted, writer)
     }
 }

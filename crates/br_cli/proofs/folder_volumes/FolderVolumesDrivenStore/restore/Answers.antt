@@ -4,6 +4,7 @@ use Rattle.br_cli.proofs.folder_volumes.FolderVolumesDrivenStore.restore.Goals a
 pub returns : goal.returns
 returns g c = record {
   restored =
-      restored_untold c.args.wanted (g.W.Write.contents c.args.writer.now) (g.W.Write.contents c.restore_by.new.writer) c.restore_by.result c.in_ok-drives.drives.items
-      c.in_ok-drives.ensures.many c.in_ok-drives.ensures.untold c.restore_by.ensures;
+      restored_untold c.args.wanted _ c.in_ok-drives.drives.items c.restore_by.new.restore.drives.items (g.W.Write.contents c.args.writer.now)
+      (g.W.Write.contents c.restore_by.new.writer) _ c.restore_by.result c.in_ok-drives.ensures.many c.in_ok-drives.ensures.untold c.restore_by.ensures.places
+      c.restore_by.ensures.restored;
 }
