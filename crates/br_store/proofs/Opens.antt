@@ -6,6 +6,9 @@ use Rattle.sqlite.specs.Tree.{Trees}
 use Rattle.sqlite.specs.Table.{Table as Declared}
 use Rattle.sqlite.specs.View.{View, IsShaped, IsOrdered}
 use Rattle.sqlite.specs.Effect.{Database, IsDatabase}
+use Rattle.sqlite.specs.Held.{Held, state}
+use Rattle.sqlite.proofs.StateLemmas.{survives_weaker}
+use Rattle.sqlite_trees.specs.declared.store.Store.{Ghosts}
 use Rattle.sqlite_trees.specs.Objects.{catalog_tree, IsListed}
 use Rattle.sqlite_trees.specs.declared.store.Shape.TheVariants.{Table}
 use Rattle.sqlite_catalog.specs.Listing.{AreListed, IsTableRow, is_table_row}
@@ -16,7 +19,7 @@ use Rattle.br_catalog_rows.specs.KnownSchemas.{HasVersionTable, IsStoreSchema, S
 use Rattle.sqlite_rules.proofs.ListLemmas.{all_has}
 use Rattle.br_store.specs.Held.{HasTables, HasVersions}
 use Rattle.br_store.specs.Made.{Finds, IsMade}
-use Rattle.br_store.specs.Calls.{AreRising}
+use Rattle.br_store.specs.Calls.{AreRising, CommitsNothing, MayMake}
 use Rattle.br_store.proofs.Inserts.{all_ours, has_table}
 use Rattle.br_store.proofs.Layouts.{has_here, layout_is, version_is}
 
@@ -87,3 +90,7 @@ finds_kept before now trees = inl trees
 
 pub not_fresh : (P : Type 0) (now : Database) → IsDatabase now → IsStoreSchema now.schema → IsDatabase (record { schema = no_schema; trees = now.trees }) → P
 not_fresh P now sound schema none = absurd (not_both now.schema now.trees schema none sound)
+
+-- a call that commits nothing makes no catalogue
+pub makes_none : {S : Type 0} (g : Ghosts S) (old new : Held S) → CommitsNothing g old new → MayMake g old new
+makes_none g old new kept = survives_weaker (state g old) (state g new) _ _ (λ clean db none. absurd none) kept

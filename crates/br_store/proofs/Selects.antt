@@ -15,6 +15,7 @@ use Rattle.sqlite_rules.specs.Lists.{Has}
 use Rattle.sqlite_rules.proofs.ListLemmas.{all_from, all_has}
 use Rattle.sqlite_trees.proofs.ListLemmas.{all-permutation, all-flat_map}
 use Rattle.br_catalog_rows.specs.TreePlaces.{Layout}
+use Rattle.br_store.specs.Calls.{KeepsSettled}
 use Rattle.br_store.specs.Held.{IsName, IsNumberAt, IsNumberOf, layout_in}
 use Rattle.br_store.specs.Names.{tree_of, word}
 use Rattle.br_store.specs.declared.name_numbers.Dictionary.{Dictionary}
@@ -25,7 +26,7 @@ use Rattle.sqlite.specs.Command.TheVariants.{Select}
 use Rattle.sqlite.specs.declared.error.Error.{Error}
 use Rattle.sqlite.specs.Listing.{understood, reads_listing}
 use Rattle.sqlite.specs.Clock.{timed}
-use Rattle.sqlite.specs.State.{State, KeepsCommit, IsUnchanged, IsRolledBack, Fails, IsNotRun, FailsToQuery, FailsToShow, IsTooLate, ShowsRows, Shown}
+use Rattle.sqlite.specs.State.{State, KeepsCommit, IsUnchanged, IsRolledBack, IsNotRun, FailsToQuery, FailsToShow, IsTooLate, ShowsRows, Shown}
 use Rattle.sqlite.proofs.Callers.{IsPlain, command_of, reads_as}
 use Rattle.br_model.proofs.ListLaws.{all_map}
 
@@ -35,13 +36,30 @@ unchanged_keeps old new h = record { was_open = λ _. h.0.was_open; committed = 
 pub undone_keeps : (old new : State) → IsRolledBack old new → KeepsCommit old new
 undone_keeps old new h = record { was_open = h.was_open; committed = λ up. (h.undone up).1 }
 
-fails_keep : (old new : State) (U : Type 0) (e : Error) → Fails old new U e → KeepsCommit old new
-fails_keep old new U e h = undone_keeps old new h.3
+pub unchanged_stays : (old new : State) → IsUnchanged old new → KeepsSettled old new
+unchanged_stays old new h was up = (h.0.now_is, h.0.committed_is)
+
+undone_stays : (old new : State) → IsRolledBack old new → KeepsSettled old new
+undone_stays old new h was up =
+    let back = h.undone up in
+    (back.0 ∙ sym was, back.1)
+
+-- a text that was not run changed nothing, or the transaction was undone
+not_run_leaves : (old new : State) (sql : List ℕ) (params : Row) (e : Error) → IsNotRun old new sql params e → IsUnchanged old new ⊎ IsRolledBack old new
+unfolding IsNotRun
+not_run_leaves old new sql params e (inl h) = inl h.1
+not_run_leaves old new sql params e (inr h) = inr h.3
+
+either_keeps : (old new : State) → IsUnchanged old new ⊎ IsRolledBack old new → KeepsCommit old new
+either_keeps old new (inl same) = unchanged_keeps old new same
+either_keeps old new (inr undone) = undone_keeps old new undone
+
+either_stays : (old new : State) → IsUnchanged old new ⊎ IsRolledBack old new → KeepsSettled old new
+either_stays old new (inl same) = unchanged_stays old new same
+either_stays old new (inr undone) = undone_stays old new undone
 
 pub not_run_keeps : (old new : State) (sql : List ℕ) (params : Row) (e : Error) → IsNotRun old new sql params e → KeepsCommit old new
-unfolding IsNotRun
-not_run_keeps old new sql params e (inl h) = unchanged_keeps old new h.1
-not_run_keeps old new sql params e (inr h) = fails_keep old new ⊥ e h
+not_run_keeps old new sql params e h = either_keeps old new (not_run_leaves old new sql params e h)
 
 module _ (schema : Schema) (sql : List ℕ) (params : Row) (old new : State) (has : old.now.schema ≡ schema) (plain : IsPlain (understood schema sql)) where
   pub shown_same : (rows : List Row) → Shown sql params old new rows → IsUnchanged old new
@@ -51,14 +69,20 @@ module _ (schema : Schema) (sql : List ℕ) (params : Row) (old new : State) (ha
       let bare = subst IsPlain (sym known) plain in
       (subst (ShowsRows old new sql h.0 (timed params h.0.formats h.1.now) rows) bare.0 h.2).3
 
-  pub failure_keeps : (e : Error) → FailsToQuery sql params old new e ⊎ IsTooLate sql params old new e → KeepsCommit old new
+  failure_leaves : (e : Error) → FailsToQuery sql params old new e ⊎ IsTooLate sql params old new e → IsUnchanged old new ⊎ IsRolledBack old new
   unfolding FailsToQuery
-  failure_keeps e (inr late) = unchanged_keeps old new late.5
-  failure_keeps e (inl (inl not_run)) = not_run_keeps old new sql params e not_run
-  failure_keeps e (inl (inr h)) =
+  failure_leaves e (inr late) = inl late.5
+  failure_leaves e (inl (inl not_run)) = not_run_leaves old new sql params e not_run
+  failure_leaves e (inl (inr h)) =
       let known = sym h.1.is ∙ ap (λ s. understood s sql) has in
       let bare = subst IsPlain (sym known) plain in
-      unchanged_keeps old new (subst (FailsToShow old new sql h.0 (timed params h.0.formats h.1.now) e) bare.0 h.2).3
+      inl (subst (FailsToShow old new sql h.0 (timed params h.0.formats h.1.now) e) bare.0 h.2).3
+
+  pub failure_keeps : (e : Error) → FailsToQuery sql params old new e ⊎ IsTooLate sql params old new e → KeepsCommit old new
+  failure_keeps e h = either_keeps old new (failure_leaves e h)
+
+  pub failure_stays : (e : Error) → FailsToQuery sql params old new e ⊎ IsTooLate sql params old new e → KeepsSettled old new
+  failure_stays e h = either_stays old new (failure_leaves e h)
 
   module _ (q : Query) (names : List (List ℕ)) (is : command_of (understood schema sql) ≡ Select (record { lets = []; body = q }) names) (unlisted : reads_listing schema sql ≡ false) where
     pub answers : (rows : List Row) → Shown sql params old new rows → IsAnswer q (overlay old.now.trees []) params rows

@@ -14,7 +14,7 @@ use Rattle.sqlite_trees.specs.declared.store.Store.{Ghosts}
 use Rattle.br_model.specs.Job.{JobRows}
 use Rattle.br_catalog_rows.specs.Inserted.{Adds}
 use Rattle.br_store.specs.Held.{HasTables, HasVersions, rows_in}
-use Rattle.br_store.specs.Made.{HasEmptied}
+use Rattle.br_store.specs.Made.{HasEmptied, IsMade}
 
 -- ---- premises
 
@@ -67,6 +67,11 @@ BorrowsSame old new = new.ghost_name ≡ old.ghost_name
 abbrev pub CommitsNothing : {S : Type 0} → Ghosts S → Held S → Held S → Type 0
 CommitsNothing g old new = Survives (state g old) (state g new) (λ _. ⊥)
 
+-- no fault is forgotten, and a crash leaves what it could leave before the call, or a catalogue with
+-- no job
+abbrev pub MayMake : {S : Type 0} → Ghosts S → Held S → Held S → Type 0
+MayMake g old new = Survives (state g old) (state g new) (λ trees. (db : Database) × IsMade db × (trees ≡ db.trees))
+
 -- these are the trees of a catalogue that has the rows of this database, and the job
 abbrev pub HasAdded : JobRows → Database → Trees → Type 0
 HasAdded job before trees = (db : Database) × HasTables db × Adds job (rows_in before.trees) (rows_in db.trees) × (trees ≡ db.trees)
@@ -91,6 +96,11 @@ StaysIdle old new = old.in_transaction ≡ false → new.in_transaction ≡ fals
 -- the visible and the committed database are unchanged
 abbrev pub IsSame : State → State → Type 0
 IsSame old new = (new.now ≡ old.now) × (new.committed ≡ old.committed)
+
+-- if all visible data was committed, and the database is open afterwards, its visible and committed
+-- data are unchanged
+abbrev pub KeepsSettled : State → State → Type 0
+KeepsSettled old new = old.now ≡ old.committed → IsTrue new.is_open → IsSame old new
 
 -- if the database is open it was open before, and its visible and committed data are unchanged
 abbrev pub Stays : State → State → Type 0

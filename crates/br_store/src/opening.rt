@@ -2,9 +2,10 @@
 
 ghost use Rattle.std.specs.Prelude.{◌≡◌, false, None, IsTrue, IfOk, IfErr, OnOk, OnErr};
 ghost use Rattle.sqlite.specs.Held.{state};
-ghost use Rattle.sqlite.specs.State.{IsUnchanged, Survives};
+ghost use Rattle.sqlite.specs.State.{IsUnchanged};
 ghost use Rattle.br_catalog_rows.specs.Tables.{no_schema};
-ghost use Rattle.br_store.specs.Calls.{CommitsNothing, IsJustOpened, IsSame, OnCleanDisk, ShowsVersions, StaysIdle, WhileClean};
+ghost use Rattle.br_store.specs.Calls.{CommitsNothing, IsJustOpened, IsSame, KeepsSettled, MayMake, OnCleanDisk};
+ghost use Rattle.br_store.specs.Calls.{ShowsVersions, StaysIdle, WhileClean};
 ghost use Rattle.br_store.specs.Held.{IsCatalogue, versions_in};
 ghost use Rattle.br_catalog_rows.specs.Fault.{IsStoreFault};
 ghost use Rattle.br_store.specs.Made.{Finds, IsMade, IsOpenFault, IsWhy, version_refusal};
@@ -24,7 +25,7 @@ pub fn create<S: Alter>(conn: &mut Connection<S>) -> Result<(), Error>
     requires empty { conn.old.schema ≡ no_schema }
     ensures made { OnCleanDisk S.Store conn.old conn.new (λ old new. OnOk result (IsMade new.now × (new.committed ≡ new.now))) }
     ensures refused { OnCleanDisk S.Store conn.old conn.new (λ old new. IsTrue new.is_open → OnErr result (IsSame old new)) }
-    ensures crash { Survives (state S.Store conn.old) (state S.Store conn.new) (λ trees. (db : _) × IsMade db × (trees ≡ db.trees)) }
+    ensures crash { MayMake S.Store conn.old conn.new }
     ensures open { OnCleanDisk S.Store conn.old conn.new (λ old new. OnOk result (IsTrue new.is_open)) }
     ensures idle { conn.new.in_transaction ≡ false }
 {
@@ -69,6 +70,7 @@ fn check_version<S: Alter>(conn: &mut Connection<S>) -> Result<(), StoreFault>
         OnOk result (version_refusal (versions_in old.now.trees) ≡ None)) }
     ensures why { OnCleanDisk S.Store conn.old conn.new (λ old new. IfErr result (IsWhy old new)) }
     ensures same { OnCleanDisk S.Store conn.old conn.new (λ old new. OnOk result (IsUnchanged old new)) }
+    ensures stays { OnCleanDisk S.Store conn.old conn.new KeepsSettled }
     ensures idle { StaysIdle conn.old conn.new }
     ensures survives { CommitsNothing S.Store conn.old conn.new }
     ensures cause { IfErr result (λ e. IsOpenFault e) }
@@ -81,7 +83,8 @@ fn check_version<S: Alter>(conn: &mut Connection<S>) -> Result<(), StoreFault>
 }
 
 /// Makes the tables in a database with no table. Of any other it tests the version first, and then
-/// the tables.
+/// the tables. After a refusal the database is as before, if it is still open. A crash leaves what
+/// it could leave before, or a catalogue with no job.
 pub(crate) fn make_or_check<S: Alter>(conn: &mut Connection<S>) -> Result<(), StoreFault>
     requires { IsJustOpened S.Store conn.old }
     ensures catalogue { OnOk result (IsCatalogue S.Store conn.new) }
@@ -93,6 +96,8 @@ pub(crate) fn make_or_check<S: Alter>(conn: &mut Connection<S>) -> Result<(), St
     ensures current { OnCleanDisk S.Store conn.old conn.new (λ old new.
         OnOk result (version_refusal (versions_in new.now.trees) ≡ None)) }
     ensures why { OnCleanDisk S.Store conn.old conn.new (λ old new. IfErr result (IsWhy old new)) }
+    ensures same { OnCleanDisk S.Store conn.old conn.new (λ old new. IsTrue new.is_open → OnErr result (IsSame old new)) }
+    ensures crash { MayMake S.Store conn.old conn.new }
     ensures cause { IfErr result (λ e. IsOpenFault e) }
 {
     if is_empty(conn.schema()) {

@@ -3,7 +3,7 @@
 ghost use Rattle.std.specs.Prelude.{◌≡◌, false, IsTrue, IfOk, OnOk, OnErr};
 ghost use Rattle.sqlite.specs.Held.{state};
 ghost use Rattle.sqlite.specs.State.{IsUnchanged, KeepsCommit};
-ghost use Rattle.br_store.specs.Calls.{CommitsNothing, IsReadable, IsSame, OnCleanDisk, ShowsVersions, Stays, StaysIdle};
+ghost use Rattle.br_store.specs.Calls.{CommitsNothing, IsReadable, IsSame, KeepsSettled, OnCleanDisk, ShowsVersions, Stays, StaysIdle};
 ghost use Rattle.br_store.specs.Held.{IsCatalogue, rows_in, versions_in};
 
 use crate::laws::idle_is_settled;
@@ -16,6 +16,7 @@ pub(crate) fn versions<S: Alter>(conn: &mut Connection<S>) -> Result<Vec<Row>, E
     ensures rows { OnCleanDisk S.Store conn.old conn.new (λ old new.
         IfOk result (λ rows. rows.items ≡ versions_in old.now.trees)) }
     ensures same { OnCleanDisk S.Store conn.old conn.new (λ old new. OnOk result (IsUnchanged old new)) }
+    ensures stays { OnCleanDisk S.Store conn.old conn.new KeepsSettled }
     ensures idle { StaysIdle conn.old conn.new }
     ensures kept { OnCleanDisk S.Store conn.old conn.new (λ old new. OnErr result (KeepsCommit old new)) }
     ensures survives { CommitsNothing S.Store conn.old conn.new }

@@ -8,7 +8,7 @@ ghost use Rattle.br_catalog_rows.specs.Fault.{IsStoreFault, cause, of_rows_fault
 ghost use Rattle.br_catalog_rows.specs.Load.{read_history};
 ghost use Rattle.br_catalog_rows.specs.Rows.{no_rows};
 ghost use Rattle.br_store.specs.Calls.{AddsJob, CommitsNothing, IsCommitted, IsDurable, IsJustOpened, IsReadable, IsSame};
-ghost use Rattle.br_store.specs.Calls.{MayCommit, OnCleanDisk, WhileClean};
+ghost use Rattle.br_store.specs.Calls.{MayCommit, MayMake, OnCleanDisk, WhileClean};
 ghost use Rattle.br_store.specs.Held.{IsCatalogue, HasTables, rows_in, versions_in};
 ghost use Rattle.br_store.specs.Made.{Finds, IsLoadFault, IsOpenFault, IsWhy, version_refusal};
 
@@ -49,8 +49,10 @@ impl<S: Alter + Drop> Store<S> {
     /// # Errors
     ///
     /// `OldCatalogue` if the version is the one row 1, `BadCatalogue` if it is not the one row 2
-    /// either, and nothing is changed then (`why`). `Store`, with its cause, if the database fails or does not
-    /// have the tables of a catalogue. The connection is returned with the cause.
+    /// either, and nothing is changed then (`why`). `Store`, with its cause, if the database fails or
+    /// does not have the tables of a catalogue. The connection is returned with the cause. If it is
+    /// still open then, the database is as before (`same`). A crash afterwards leaves what it could
+    /// leave before, or a catalogue with no job (`survives`).
     pub fn open(alloc: Global, conn: Connection<S>) -> Result<Store<S>, (StoreFault, Connection<S>)>
         requires { IsJustOpened S.Store conn }
         ensures open { IfOk result (λ s. WhileClean S.Store s (λ is. IsTrue is.is_open)) }
@@ -61,6 +63,9 @@ impl<S: Alter + Drop> Store<S> {
         ensures crash { IfOk result (λ s. WhileClean S.Store s IsDurable) }
         ensures current { IfOk result (λ s. WhileClean S.Store s (λ is. version_refusal (versions_in is.now.trees) ≡ None)) }
         ensures why { IfErr result (λ refused. WhileClean S.Store refused.1 (λ is. IsWhy (state S.Store conn) is refused.0)) }
+        ensures same { IfErr result (λ refused. WhileClean S.Store refused.1 (λ is.
+            IsTrue is.is_open → IsSame (state S.Store conn) is)) }
+        ensures survives { IfErr result (λ refused. MayMake S.Store conn refused.1) }
         ensures cause { IfErr result (λ refused. IsOpenFault refused.0) }
     {
         let mut conn = conn;

@@ -1,14 +1,16 @@
-use Rattle.std.proofs.Common.{◌≡◌, None, arith, ap, sym, subst, subst₂, ◌∙◌}
+use Rattle.std.proofs.Common.{◌≡◌, None, arith, refl, ap, sym, subst, subst₂, ◌∙◌}
 use Rattle.sqlite.specs.Effect.{Database, IsDatabase}
 use Rattle.sqlite.specs.Held.{state}
 use Rattle.sqlite.specs.State.{HasCleanDisk}
 use Rattle.br_catalog_rows.specs.Tables.{no_schema}
 use Rattle.br_catalog_rows.specs.KnownSchemas.{HasVersionTable, IsStoreSchema}
 use Rattle.br_catalog_rows.specs.Rows.{Rows}
-use Rattle.br_store.specs.Calls.{AreRising}
+use Rattle.br_store.specs.Calls.{AreRising, IsSame}
 use Rattle.br_store.specs.Held.{versions_in}
 use Rattle.br_store.specs.Made.{version_refusal}
-use Rattle.br_store.proofs.Opens.{finds_made, finds_kept, has_tables, has_versions, not_fresh}
+use Rattle.br_store.proofs.Appends.{survives_itself}
+use Rattle.br_store.proofs.Ready.{err_with}
+use Rattle.br_store.proofs.Opens.{finds_made, finds_kept, has_tables, has_versions, makes_none, not_fresh}
 use Rattle.br_store.proofs.opening.make_or_check.Goals as goal
 
 pub returns-then-is_empty-clause-catalogue : goal.returns-then-is_empty-clause-catalogue
@@ -76,3 +78,36 @@ returns-clause-fresh g c clean none =
 pub returns-clause-current : goal.returns-clause-current
 returns-clause-current g c clean =
     subst (λ (db : Database). version_refusal (versions_in db.trees) ≡ None) (sym (c.in_ok-check_version.ensures.same clean).0.now_is) (c.in_ok-check_version.ensures.current clean)
+
+-- ---- refusals
+
+pub returns-in_err-create-clause-same : goal.returns-in_err-create-clause-same
+returns-in_err-create-clause-same g c clean up =
+    let same : IsSame (state g.S.Store c.args.conn.now) (state g.S.Store c.create.new.conn) = c.in_err-create.ensures.refused clean up in
+    err_with _ same
+
+pub returns-then-not-has_version-clause-same : goal.returns-then-not-has_version-clause-same
+returns-then-not-has_version-clause-same g c clean up = (refl, refl)
+
+pub returns-in_err-check_version-clause-same : goal.returns-in_err-check_version-clause-same
+returns-in_err-check_version-clause-same g c clean up =
+    let is = c.requires.opens (omega (arith, clean, c.check_version.ensures.survives.clean)) in
+    let same : IsSame (state g.S.Store c.args.conn.now) (state g.S.Store c.check_version.new.conn) = c.check_version.ensures.stays clean is.clean up in
+    err_with _ same
+
+pub returns-then-not-is_ours-clause-same : goal.returns-then-not-is_ours-clause-same
+returns-then-not-is_ours-clause-same g c clean up =
+    let is = c.requires.opens (omega (arith, clean, c.check_version.ensures.survives.clean)) in
+    c.check_version.ensures.stays clean is.clean up
+
+pub returns-then-not-has_version-clause-crash : goal.returns-then-not-has_version-clause-crash
+returns-then-not-has_version-clause-crash g c = survives_itself (state g.S.Store c.args.conn.now) _
+
+pub returns-in_err-check_version-clause-crash : goal.returns-in_err-check_version-clause-crash
+returns-in_err-check_version-clause-crash g c = makes_none g.S.Store c.args.conn.now c.check_version.new.conn c.check_version.ensures.survives
+
+pub returns-then-not-is_ours-clause-crash : goal.returns-then-not-is_ours-clause-crash
+returns-then-not-is_ours-clause-crash g c = makes_none g.S.Store c.args.conn.now c.check_version.new.conn c.check_version.ensures.survives
+
+pub returns-clause-crash : goal.returns-clause-crash
+returns-clause-crash g c = makes_none g.S.Store c.args.conn.now c.check_version.new.conn c.check_version.ensures.survives

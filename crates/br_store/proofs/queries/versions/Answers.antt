@@ -6,7 +6,8 @@ use Rattle.sqlite.specs.Held.{state}
 use Rattle.br_store.specs.Held.{tree_named}
 use Rattle.br_store.proofs.Asks.{select_versions, versions_query, version_names}
 use Rattle.br_store.proofs.VersionTexts.{select_versions_is}
-use Rattle.br_store.proofs.Selects.{shown_same, failure_keeps, answers}
+use Rattle.br_store.proofs.Ready.{from_each}
+use Rattle.br_store.proofs.Selects.{shown_same, failure_keeps, failure_stays, unchanged_stays, answers}
 use Rattle.br_store.proofs.Loads.{versions_shown}
 use Rattle.br_store.proofs.queries.versions.Goals as goal
 
@@ -28,6 +29,16 @@ returns-clause-same g c clean =
     let has = c.requires (omega (arith, clean, c.query_all.ensures.survives.clean)) in
     let tree = tree_named old.now.trees (codes "Version") in
     IfOk-weaker c.query_all.result _ _ (λ rows shown. shown_same old.now.schema select_versions [] old new refl (select_versions_is old.now.schema tree has.own has.table).plain rows.items shown) (c.query_all.ensures.ok clean)
+
+pub returns-clause-stays : goal.returns-clause-stays
+returns-clause-stays g c clean =
+    let old = state g.S.Store c.args.conn.now in
+    let new = state g.S.Store c.query_all.new.self in
+    let has = c.requires (omega (arith, clean, c.query_all.ensures.survives.clean)) in
+    let plain = (select_versions_is old.now.schema (tree_named old.now.trees (codes "Version")) has.own has.table).plain in
+    from_each c.query_all.result _ _ (c.query_all.ensures.ok clean) (c.query_all.ensures.err clean)
+    (λ rows shown. unchanged_stays old new (shown_same old.now.schema select_versions [] old new refl plain rows.items shown))
+    (λ e failed. failure_stays old.now.schema select_versions [] old new refl plain e (inl failed))
 
 pub returns-clause-kept : goal.returns-clause-kept
 returns-clause-kept g c clean =
