@@ -13,8 +13,8 @@ use Rattle.sqlite_trees.specs.declared.store.Shape.{Shape}
 use Rattle.sqlite_trees.specs.declared.store.Shape.TheVariants.{Table}
 use Rattle.sqlite_catalog.specs.Listing.{Lists}
 use Rattle.br_catalog_migrate.specs.Moved.{IsMoved, IsMovedFrom, IsWritten, moved_files, version_rows}
-use Rattle.br_catalog_rows.specs.declared.old_schema.OldLayout.{OldLayout}
-use Rattle.br_catalog_rows.specs.OldSchemas.{IsMovedSchema}
+use Rattle.br_catalog_tables.specs.declared.old_schema.OldLayout.{OldLayout}
+use Rattle.br_catalog_tables.specs.OldSchemas.{IsMovedSchema}
 use Rattle.br_catalog_migrate.specs.OldRead.{AreSorted, IsOldIn, IsReadOld}
 use Rattle.br_catalog_migrate.specs.Claims.{WritesNew}
 use Rattle.br_catalog_migrate.specs.Renewed.{HasFiles, IsAltered, ListsNoOther, Replaces, replaced}

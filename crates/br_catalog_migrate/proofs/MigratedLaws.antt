@@ -12,11 +12,11 @@ use Rattle.sqlite_trees.specs.declared.store.Shape.TheVariants.{Table as Shaped}
 use Rattle.br_model.specs.Job.{JobRows}
 use Rattle.br_catalog_rows.specs.Load.{check_first, read_history, read_loaded}
 use Rattle.br_catalog_rows.specs.Rows.{Rows}
-use Rattle.br_catalog_rows.specs.declared.old_schema.OldLayout.{OldLayout}
-use Rattle.br_catalog_rows.specs.OldTables.{keeps_tree, moved_layout}
-use Rattle.br_catalog_rows.specs.TreePlaces.{Layout}
-use Rattle.br_catalog_rows.specs.KnownSchemas.{no_owns}
-use Rattle.br_catalog_rows.specs.Tables.{tables_at}
+use Rattle.br_catalog_tables.specs.declared.old_schema.OldLayout.{OldLayout}
+use Rattle.br_catalog_tables.specs.OldTables.{keeps_tree, moved_layout}
+use Rattle.br_catalog_tables.specs.TreePlaces.{Layout}
+use Rattle.br_catalog_tables.specs.KnownSchemas.{no_owns}
+use Rattle.br_catalog_tables.specs.Tables.{tables_at}
 use Rattle.br_store.specs.Held.{file_shown, job_shown, rows_at, rows_in, span_shown, tree_named}
 use Rattle.br_store.specs.Made.{is_first}
 use Rattle.br_store.proofs.Layouts.{has_here, layout_is}

@@ -3,9 +3,9 @@ use Rattle.std.proofs.Common.{◌≡◌, ℕ, true, List, codes, refl, ap₂, �
 use Rattle.sqlite.specs.Table.{Table}
 use Rattle.sqlite.specs.Effect.{Database}
 use Rattle.sqlite_schema.specs.Names.{same_name}
-use Rattle.br_catalog_rows.specs.declared.old_schema.OldLayout.{OldLayout}
-use Rattle.br_catalog_rows.specs.KnownSchemas.{Stands}
-use Rattle.br_catalog_rows.specs.OldTables.{moved_layout}
+use Rattle.br_catalog_tables.specs.declared.old_schema.OldLayout.{OldLayout}
+use Rattle.br_catalog_tables.specs.KnownSchemas.{Stands}
+use Rattle.br_catalog_tables.specs.OldTables.{moved_layout}
 use Rattle.br_store.specs.Held.{layout_in, tree_named}
 use Rattle.br_store.proofs.Layouts.{tree_at, tree_is}
 use Rattle.br_catalog_migrate.specs.Old.{HasOld}

@@ -18,12 +18,12 @@ use Rattle.sqlite_schema.specs.declared.schema.Index.{Index}
 use Rattle.sqlite_schema.specs.declared.schema.Reference.{Reference}
 use Rattle.sqlite_rules.specs.Lists.{Has}
 use Rattle.sqlite_rules.proofs.ListLemmas.{all_from, all_has, test_from, test_has}
-use Rattle.br_catalog_rows.specs.declared.old_schema.OldLayout.{OldLayout}
-use Rattle.br_catalog_rows.specs.KnownSchemas.{Stands}
-use Rattle.br_catalog_rows.specs.OldSchemas.{IsBeside, IsMovedSchema, IsOldSchema}
-use Rattle.br_catalog_rows.specs.OldTables.{keeps_tree, moved_layout, old_file}
-use Rattle.br_catalog_rows.specs.TreePlaces.{file_filename, file_job, file_path, job_client, job_fileset, span_job, span_media}
-use Rattle.br_catalog_rows.specs.Tables.{client, file, fileset, job, job_media, media, path, refers, tables_at, version}
+use Rattle.br_catalog_tables.specs.declared.old_schema.OldLayout.{OldLayout}
+use Rattle.br_catalog_tables.specs.KnownSchemas.{Stands}
+use Rattle.br_catalog_tables.specs.OldSchemas.{IsBeside, IsMovedSchema, IsOldSchema}
+use Rattle.br_catalog_tables.specs.OldTables.{keeps_tree, moved_layout, old_file}
+use Rattle.br_catalog_tables.specs.TreePlaces.{file_filename, file_job, file_path, job_client, job_fileset, span_job, span_media}
+use Rattle.br_catalog_tables.specs.Tables.{client, file, fileset, job, job_media, media, path, refers, tables_at, version}
 use Rattle.br_store.proofs.Inserts.{has_table}
 use Rattle.br_store.proofs.Lookups.{by_name}
 use Rattle.br_catalog_migrate.specs.Moved.{version_rows}

@@ -5,8 +5,8 @@ use Rattle.sqlite.specs.Order.{Row}
 use Rattle.sqlite.specs.Tree.{Trees}
 use Rattle.sqlite_trees.specs.Objects.{catalog_tree}
 use Rattle.sqlite_trees.specs.Tree.{with_tree}
-use Rattle.br_catalog_rows.specs.declared.old_schema.OldLayout.{OldLayout}
-use Rattle.br_catalog_rows.specs.OldTables.{keeps_tree, spares_tree}
+use Rattle.br_catalog_tables.specs.declared.old_schema.OldLayout.{OldLayout}
+use Rattle.br_catalog_tables.specs.OldTables.{keeps_tree, spares_tree}
 use Rattle.br_catalog_migrate.specs.Renewed.{relisted, replaced}
 use Rattle.br_catalog_migrate.specs.Sound.{moved_trees}
 

@@ -8,7 +8,7 @@ use Rattle.sqlite.specs.Tree.{Trees, IsTable}
 use Rattle.sqlite_trees.specs.View.{View}
 use Rattle.br_model.specs.Job.{JobRow, JobRows}
 use Rattle.br_catalog_rows.specs.Load.{read_loaded}
-use Rattle.br_catalog_rows.specs.declared.old_schema.OldLayout.{OldLayout}
+use Rattle.br_catalog_tables.specs.declared.old_schema.OldLayout.{OldLayout}
 use Rattle.br_store.specs.Held.{job_shown, span_shown}
 use Rattle.br_catalog_migrate.specs.OldFiles.{AreFiles, moved_row, shown_row}
 use Rattle.br_catalog_migrate.specs.Moved.{IsWritten, KeepsJobs, database}

@@ -6,7 +6,7 @@ use Rattle.sqlite_trees.specs.declared.store.Store.{Ghosts}
 use Rattle.sqlite_trees.specs.declared.store.Shape.TheVariants as Shape
 use Rattle.sqlite_exec.specs.Calls.{OnlyReads}
 use Rattle.sqlite_exec.specs.Loops.{left_of}
-use Rattle.br_catalog_rows.specs.declared.old_schema.OldLayout.{OldLayout}
+use Rattle.br_catalog_tables.specs.declared.old_schema.OldLayout.{OldLayout}
 
 -- the claim holds of the store before and after a call if its disk has returned what was written to it
 abbrev pub OnCleanStore : {S : Type 0} → Ghosts S → S → S → (View → View → Type 0) → Type 0

@@ -15,8 +15,8 @@ use Rattle.br_model.specs.Job.{JobRows}
 use Rattle.br_catalog_rows.specs.Fault.{fault_number}
 use Rattle.br_catalog_rows.specs.Load.{read_history}
 use Rattle.br_catalog_rows.specs.declared.fault.StoreFault.{StoreFault}
-use Rattle.br_catalog_rows.specs.declared.old_schema.OldLayout.{OldLayout}
-use Rattle.br_catalog_rows.specs.OldSchemas.{IsMovedSchema}
+use Rattle.br_catalog_tables.specs.declared.old_schema.OldLayout.{OldLayout}
+use Rattle.br_catalog_tables.specs.OldSchemas.{IsMovedSchema}
 use Rattle.br_store.specs.Held.{rows_in}
 use Rattle.br_catalog_migrate.specs.OldFiles.{moved_row}
 use Rattle.br_catalog_migrate.specs.Old.{IsMigrated, old_rows_in, read_old}

@@ -7,8 +7,8 @@ use Rattle.sqlite.specs.Effect.{Database, IsDatabase}
 use Rattle.br_model.specs.Job.{JobRows}
 use Rattle.br_catalog_rows.specs.Load.{read_loaded}
 use Rattle.br_catalog_rows.specs.Rows.{Rows}
-use Rattle.br_catalog_rows.specs.declared.old_schema.OldLayout.{OldLayout}
-use Rattle.br_catalog_rows.specs.OldSchemas.{IsOldSchema}
+use Rattle.br_catalog_tables.specs.declared.old_schema.OldLayout.{OldLayout}
+use Rattle.br_catalog_tables.specs.OldSchemas.{IsOldSchema}
 use Rattle.br_store.specs.Held.{HasTables, rows_in, tree_named}
 use Rattle.br_store.specs.Made.{is_first}
 use Rattle.br_catalog_migrate.specs.OldFiles.{shown_row}

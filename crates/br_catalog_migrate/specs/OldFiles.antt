@@ -5,7 +5,7 @@ use Rattle.sqlite.specs.declared.types.Value.TheVariants.{Int, Null, Text}
 use Rattle.sqlite.specs.Order.{Row, column}
 use Rattle.br_model.specs.Job.{FileRow, is_file_row}
 use Rattle.br_catalog_rows.specs.Decode.{read_file}
-use Rattle.br_catalog_rows.specs.TreePlaces.{file_md5, file_filename, file_index, file_job, file_lstat, file_path, row_number}
+use Rattle.br_catalog_tables.specs.TreePlaces.{file_md5, file_filename, file_index, file_job, file_lstat, file_path, row_number}
 use Rattle.br_store.specs.Held.{name_at, file_cells}
 use Rattle.br_catalog_migrate.specs.declared.old_files.FileNumbers.{FileNumbers}
 use Rattle.br_catalog_migrate.specs.declared.old_files.OldFile.{OldFile}

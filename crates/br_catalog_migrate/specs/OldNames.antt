@@ -4,7 +4,7 @@ use Rattle.sqlite.specs.declared.types.Value.{Value}
 use Rattle.sqlite.specs.declared.types.Value.TheVariants.{Int}
 use Rattle.sqlite.specs.Order.{Row, column}
 use Rattle.sqlite.specs.Tree.{rowid}
-use Rattle.br_catalog_rows.specs.TreePlaces.{name_column}
+use Rattle.br_catalog_tables.specs.TreePlaces.{name_column}
 use Rattle.br_catalog_migrate.specs.declared.old_names.NameTable.{NameTable}
 
 -- the name of a row

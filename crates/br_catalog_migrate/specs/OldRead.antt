@@ -12,8 +12,8 @@ use Rattle.br_model.specs.Job.{JobRows}
 use Rattle.br_catalog_rows.specs.Load.{read_loaded}
 use Rattle.br_catalog_migrate.specs.OldFiles.{AreFiles, moved_row, shown_row}
 use Rattle.br_catalog_migrate.specs.OldNames.{AreNames}
-use Rattle.br_catalog_rows.specs.declared.old_schema.OldLayout.{OldLayout}
-use Rattle.br_catalog_rows.specs.OldSchemas.{IsOldSchema}
+use Rattle.br_catalog_tables.specs.declared.old_schema.OldLayout.{OldLayout}
+use Rattle.br_catalog_tables.specs.OldSchemas.{IsOldSchema}
 use Rattle.br_catalog_migrate.specs.Sound.{AreMovedRows}
 use Rattle.br_store.specs.Held.{job_shown, span_shown}
 use Rattle.br_catalog_migrate.specs.declared.migrating.Old.{Old}

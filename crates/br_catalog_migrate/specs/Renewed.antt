@@ -8,7 +8,7 @@ use Rattle.sqlite_trees.specs.Objects.{SetsObject, catalog_tree}
 use Rattle.sqlite_trees.specs.declared.store.Shape.{Shape}
 use Rattle.sqlite_trees.specs.Tree.{put_row, rowid, with_tree}
 use Rattle.sqlite_trees.specs.View.{View}
-use Rattle.br_catalog_rows.specs.declared.old_schema.OldLayout.{OldLayout}
+use Rattle.br_catalog_tables.specs.declared.old_schema.OldLayout.{OldLayout}
 
 -- the trees after one was emptied, and its row was removed from the list of objects or added
 abbrev pub relisted : Trees → ℕ → List Row → Trees

@@ -4,7 +4,7 @@ use Rattle.sqlite.specs.declared.types.Value.TheVariants.{Blob, Int, Null, Text}
 use Rattle.sqlite.specs.Order.{Row, column}
 use Rattle.sqlite.specs.Tree.{Trees}
 use Rattle.sqlite_trees.specs.Tree.{with_tree}
-use Rattle.br_catalog_rows.specs.declared.old_schema.OldLayout.{OldLayout}
+use Rattle.br_catalog_tables.specs.declared.old_schema.OldLayout.{OldLayout}
 use Rattle.br_catalog_migrate.specs.Renewed.{replaced}
 
 -- a row of File of version 2 and the row of version 1 from which it is made: both have the numbers

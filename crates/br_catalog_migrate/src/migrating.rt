@@ -14,7 +14,8 @@ use crate::old_history::load_jobs;
 use crate::old_names::{NameTable, read_names};
 use crate::old_version::{OldSchema, are_tables, check_new, find_old, read_version};
 use crate::tree_cursor::fault_of;
-use br_catalog_rows::{OldLayout, StoreFault};
+use br_catalog_rows::StoreFault;
+use br_catalog_tables::OldLayout;
 use sqlite_trees::store::{Alter, Store};
 use std::alloc::Global;
 

@@ -8,7 +8,8 @@ ghost use Rattle.br_catalog_migrate.specs.MigrationSteps.{CommitsNothing, OnClea
 
 use crate::old_jobs::{keep, read_jobs, read_spans};
 use crate::old_names::read_names;
-use br_catalog_rows::{CatalogueRows, OldLayout, StoreFault, history_of};
+use br_catalog_rows::{CatalogueRows, StoreFault, history_of};
+use br_catalog_tables::OldLayout;
 use br_history::History;
 use sqlite::Row as Shown;
 use sqlite_exec::work::FromRow;

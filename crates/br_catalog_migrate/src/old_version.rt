@@ -6,14 +6,13 @@ ghost use Rattle.sqlite_trees.specs.Objects.{catalog_tree};
 ghost use Rattle.sqlite_trees.specs.View.{IsClean};
 ghost use Rattle.sqlite_trees.specs.declared.store.Shape.TheVariants.{Table};
 ghost use Rattle.sqlite_catalog.specs.Listing.{Lists};
-ghost use Rattle.br_catalog_rows.specs.OldSchemas.{IsMovedSchema};
+ghost use Rattle.br_catalog_tables.specs.OldSchemas.{IsMovedSchema};
 ghost use Rattle.br_catalog_migrate.specs.OldRead.{IsOldIn};
 ghost use Rattle.br_catalog_migrate.specs.MigrationSteps.{AreTables, CommitsNothing, OnCleanStore, Reads};
 
 use crate::tree_cursor::{start, step};
-use br_catalog_rows::{
-    OldLayout, StoreFault, is_empty, is_moved, is_ours, old_layout, version_tree,
-};
+use br_catalog_rows::StoreFault;
+use br_catalog_tables::{OldLayout, is_empty, is_moved, is_ours, old_layout, version_tree};
 use sqlite::{Error, ErrorCode};
 use sqlite_catalog::load::load;
 use sqlite_schema::schema::Schema;

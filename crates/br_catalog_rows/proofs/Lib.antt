@@ -3,4 +3,3 @@ pub mod ReadLaws
 pub mod SpanOrder
 pub mod LoadLaws
 pub mod InsertedLaws
-pub mod Schemas

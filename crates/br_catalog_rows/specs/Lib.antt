@@ -3,9 +3,3 @@ pub mod Decode
 pub mod Rows
 pub mod Load
 pub mod Inserted
-pub mod TreePlaces
-pub mod Tables
-pub mod OldTables
-pub mod SchemaShapes
-pub mod KnownSchemas
-pub mod OldSchemas

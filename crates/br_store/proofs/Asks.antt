@@ -13,7 +13,7 @@ use Rattle.sqlite.specs.Listing.{understood, reads_listing}
 use Rattle.sqlite.proofs.Callers.{IsPlain, command_of}
 use Rattle.sqlite_resolve.specs.Compile.{first, planned}
 use Rattle.sqlite_syntax.specs.declared.statement.Parsed.{Parsed}
-use Rattle.br_catalog_rows.specs.TreePlaces.{Layout}
+use Rattle.br_catalog_tables.specs.TreePlaces.{Layout}
 use Rattle.br_store.proofs.Compiled.{compiled_ok}
 
 -- the text means this query

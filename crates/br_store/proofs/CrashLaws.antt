@@ -13,7 +13,7 @@ use Rattle.br_keeper.specs.Committing.{Commits}
 use Rattle.br_keeper.specs.Keeping.{Keeping}
 use Rattle.br_keeper.specs.Writing.{Shelf}
 use Rattle.br_catalog_rows.specs.Inserted.{Adds}
-use Rattle.br_catalog_rows.specs.Tables.{no_schema}
+use Rattle.br_catalog_tables.specs.Tables.{no_schema}
 use Rattle.br_store.specs.Held.{HasTables, layout_in, rows_in, rows_of}
 use Rattle.br_store.specs.Kept.{Inserts, Refuses}
 use Rattle.br_store.specs.Made.{Finds}

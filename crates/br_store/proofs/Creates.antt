@@ -15,9 +15,9 @@ use Rattle.sqlite.specs.Does.{Tally, lacks_sequence}
 use Rattle.sqlite.specs.Effect.{Database, IsDatabase}
 use Rattle.sqlite.specs.State.{State, Writes, Executes}
 use Rattle.sqlite.proofs.Callers.{runs_as}
-use Rattle.br_catalog_rows.specs.TreePlaces.{Layout, new_layout}
-use Rattle.br_catalog_rows.specs.Tables.{new_schema, tables_at}
-use Rattle.br_catalog_rows.specs.KnownSchemas.{HasAll, no_owns}
+use Rattle.br_catalog_tables.specs.TreePlaces.{Layout, new_layout}
+use Rattle.br_catalog_tables.specs.Tables.{new_schema, tables_at}
+use Rattle.br_catalog_tables.specs.KnownSchemas.{HasAll, no_owns}
 use Rattle.br_catalog_rows.specs.Rows.{no_rows}
 use Rattle.br_store.specs.Held.{Added, rows_at}
 use Rattle.br_store.specs.Made.{HasEmptied, IsMade}

@@ -21,8 +21,8 @@ use Rattle.sqlite_value.proofs.OrderLemmas.{value_cmp_total}
 use Rattle.sqlite_rules.specs.Lists.{Has}
 use Rattle.sqlite_rules.proofs.ListLemmas.{all_has}
 use Rattle.br_model.specs.Job.{JobRow}
-use Rattle.br_catalog_rows.specs.Tables.{job}
-use Rattle.br_catalog_rows.specs.KnownSchemas.{with_own}
+use Rattle.br_catalog_tables.specs.Tables.{job}
+use Rattle.br_catalog_tables.specs.KnownSchemas.{with_own}
 use Rattle.br_store.proofs.Inserts.{has_table}
 use Rattle.br_catalog_rows.specs.Inserted.{IsNewIn}
 use Rattle.br_store.specs.Held.{HasTables, Added, job_shown, layout_in, rows_in}

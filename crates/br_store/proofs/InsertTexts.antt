@@ -8,9 +8,9 @@ use Rattle.sqlite_resolve.specs.Write.{cells_from}
 use Rattle.sqlite_tied.specs.Compute.{everything}
 use Rattle.br_store.specs.declared.name_numbers.Dictionary.{Dictionary}
 use Rattle.br_store.specs.declared.name_numbers.Dictionary.TheVariants.{Client, FileSet, Media, Path}
-use Rattle.br_catalog_rows.specs.TreePlaces.{Layout}
-use Rattle.br_catalog_rows.specs.Tables.{version, client, fileset, media, path, job, job_media, file, version_columns, client_columns, fileset_columns, media_columns, path_columns, job_columns, job_media_columns, file_columns}
-use Rattle.br_catalog_rows.specs.KnownSchemas.{HasAll, Owns, with_own}
+use Rattle.br_catalog_tables.specs.TreePlaces.{Layout}
+use Rattle.br_catalog_tables.specs.Tables.{version, client, fileset, media, path, job, job_media, file, version_columns, client_columns, fileset_columns, media_columns, path_columns, job_columns, job_media_columns, file_columns}
+use Rattle.br_catalog_tables.specs.KnownSchemas.{HasAll, Owns, with_own}
 use Rattle.br_store.specs.Names.{insert_text}
 use Rattle.br_store.proofs.Compiled.{pick}
 use Rattle.br_store.proofs.Inserted.{MayInsert, cells_length, cells_split, may_insert}

@@ -26,7 +26,7 @@ use Rattle.sqlite_resolve.specs.declared.error.CompileError.TheVariants.{Mismatc
 use Rattle.sqlite_resolve.specs.Lowering.{Checked, and_then}
 use Rattle.sqlite_resolve.specs.Compile.{compiled, first, planned, timed, meaning, returning, shows, command, insert_or_abort, insert, new_rows, small}
 use Rattle.sqlite_resolve.specs.Write.{cell, cells_from}
-use Rattle.br_catalog_rows.specs.KnownSchemas.{Stands}
+use Rattle.br_catalog_tables.specs.KnownSchemas.{Stands}
 
 -- the text means to insert rows of these terms
 pub record Inserts (schema : Schema) (text : List ℕ) (place : ℕ) (terms : List Term) (width : ℕ) : Type 0 where

@@ -28,9 +28,9 @@ use Rattle.sqlite_sql.specs.Term.{eval_all}
 use Rattle.sqlite_resolve.specs.declared.error.CompileError.{CompileError}
 use Rattle.br_store.specs.declared.name_numbers.Dictionary.{Dictionary}
 use Rattle.br_store.specs.declared.name_numbers.Dictionary.TheVariants.{Client, FileSet, Media, Path}
-use Rattle.br_catalog_rows.specs.TreePlaces.{Layout}
-use Rattle.br_catalog_rows.specs.Tables.{tables_at, version, client, fileset, media, path, job, job_media, file}
-use Rattle.br_catalog_rows.specs.KnownSchemas.{HasAll, Owns, Stands, with_own}
+use Rattle.br_catalog_tables.specs.TreePlaces.{Layout}
+use Rattle.br_catalog_tables.specs.Tables.{tables_at, version, client, fileset, media, path, job, job_media, file}
+use Rattle.br_catalog_tables.specs.KnownSchemas.{HasAll, Owns, Stands, with_own}
 use Rattle.br_store.specs.Names.{tree_of, word, name_row, insert_text}
 use Rattle.br_store.specs.Held.{Added}
 use Rattle.br_store.proofs.Inserted.{MayInsert, one_value_row}

@@ -19,12 +19,12 @@ use Rattle.sqlite_schema.specs.declared.schema.Constraint.TheVariants.{ForeignKe
 use Rattle.sqlite_value.proofs.OrderLemmas.{value_cmp_total}
 use Rattle.sqlite_rules.specs.Lists.{Has}
 use Rattle.sqlite_rules.proofs.ListLemmas.{some_has, all_has, all_from}
-use Rattle.br_catalog_rows.specs.TreePlaces.{Layout}
+use Rattle.br_catalog_tables.specs.TreePlaces.{Layout}
 use Rattle.sqlite.specs.Schema.{Schema}
 use Rattle.sqlite.specs.Table.{Table}
 use Rattle.sqlite_schema.specs.declared.schema.Constraint.{Constraint}
-use Rattle.br_catalog_rows.specs.Tables.{job, job_media, file}
-use Rattle.br_catalog_rows.specs.KnownSchemas.{HasAll, Owns, Stands, with_own}
+use Rattle.br_catalog_tables.specs.Tables.{job, job_media, file}
+use Rattle.br_catalog_tables.specs.KnownSchemas.{HasAll, Owns, Stands, with_own}
 use Rattle.br_store.proofs.Inserts.{has_table}
 use Rattle.br_store.proofs.Lookups.{by_name}
 use Rattle.br_store.specs.Held.{is_named, job_shown, span_shown, file_shown}

@@ -7,9 +7,9 @@ use Rattle.sqlite.specs.Tree.{Trees}
 use Rattle.sqlite.specs.Effect.{Database, IsDatabase}
 use Rattle.sqlite_trees.specs.Objects.{catalog_tree, number_in}
 use Rattle.sqlite_catalog.specs.Listing.{IsTableRow, is_table_row}
-use Rattle.br_catalog_rows.specs.TreePlaces.{Layout}
-use Rattle.br_catalog_rows.specs.Tables.{version}
-use Rattle.br_catalog_rows.specs.KnownSchemas.{HasAll, Own, Owns, Stands, with_own}
+use Rattle.br_catalog_tables.specs.TreePlaces.{Layout}
+use Rattle.br_catalog_tables.specs.Tables.{version}
+use Rattle.br_catalog_tables.specs.KnownSchemas.{HasAll, Own, Owns, Stands, with_own}
 use Rattle.std.proofs.lemmas.Slice.Eq.{bytes_eq-Decides}
 use Rattle.sqlite.specs.Schema.{Schema}
 use Rattle.sqlite_schema.specs.Names.{same_name}

@@ -18,7 +18,7 @@ use Rattle.br_model.specs.Answer.{IsRefusal}
 use Rattle.br_catalog_rows.specs.Fault.{cause, of_rows_fault, rows_cause}
 use Rattle.br_catalog_rows.specs.declared.fault.RowsFault.{RowsFault}
 use Rattle.br_catalog_rows.specs.declared.fault.RowsFault.TheVariants.{Memory, BadRows}
-use Rattle.br_catalog_rows.specs.TreePlaces.{Layout}
+use Rattle.br_catalog_tables.specs.TreePlaces.{Layout}
 use Rattle.br_catalog_rows.specs.Rows.{Rows}
 use Rattle.br_store.specs.Held.{HasTables, HasVersions, is_named, named, layout_in, rows_at, rows_in, tree_named, versions_in, job_shown, span_shown, file_shown}
 use Rattle.br_store.proofs.Values.{tied}

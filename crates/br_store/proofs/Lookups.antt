@@ -6,9 +6,9 @@ use Rattle.std.proofs.lemmas.Iterator.Adapters.{position_from-zero}
 use Rattle.sqlite.specs.Schema.{Schema}
 use Rattle.sqlite.specs.Table.{Table}
 use Rattle.sqlite_schema.specs.Names.{same_name}
-use Rattle.br_catalog_rows.specs.TreePlaces.{new_layout}
-use Rattle.br_catalog_rows.specs.Tables.{new_schema}
-use Rattle.br_catalog_rows.specs.KnownSchemas.{HasAll, Stands, no_owns}
+use Rattle.br_catalog_tables.specs.TreePlaces.{new_layout}
+use Rattle.br_catalog_tables.specs.Tables.{new_schema}
+use Rattle.br_catalog_tables.specs.KnownSchemas.{HasAll, Stands, no_owns}
 
 place_is : (b : Bool) (n at : ℕ) → cond b (Some n) None ≡ Some at → n ≡ at
 place_is true n at h = cc

@@ -11,8 +11,8 @@ use Rattle.sqlite.specs.Compile.{table_defined_by}
 use Rattle.sqlite.specs.Listing.{understood}
 use Rattle.sqlite_tied.specs.Compute.{everything}
 use Rattle.sqlite.proofs.Callers.{IsPlain, command_of, statement_of}
-use Rattle.br_catalog_rows.specs.Tables.{create_version, create_client, create_fileset, create_media, create_path, create_job, create_job_media, create_file, version, client, fileset, media, path, job, job_media, file}
-use Rattle.br_catalog_rows.specs.Tables.{no_schema, one_table, two_tables, three_tables, four_tables, five_tables, six_tables, seven_tables, new_schema}
+use Rattle.br_catalog_tables.specs.Tables.{create_version, create_client, create_fileset, create_media, create_path, create_job, create_job_media, create_file, version, client, fileset, media, path, job, job_media, file}
+use Rattle.br_catalog_tables.specs.Tables.{no_schema, one_table, two_tables, three_tables, four_tables, five_tables, six_tables, seven_tables, new_schema}
 
 -- a text that makes a table
 abbrev pub Makes : Schema → List ℕ → Table → Schema → Type 0

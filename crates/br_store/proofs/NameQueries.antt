@@ -33,7 +33,7 @@ use Rattle.sqlite_resolve.specs.Order.{sorts}
 use Rattle.sqlite_resolve.specs.Expr.{lower}
 use Rattle.sqlite_resolve.specs.Select.{ungrouped}
 use Rattle.sqlite_tied.specs.Compute.{everything}
-use Rattle.br_catalog_rows.specs.KnownSchemas.{Stands}
+use Rattle.br_catalog_tables.specs.KnownSchemas.{Stands}
 use Rattle.br_store.proofs.Asks.{Shows, shows_from}
 use Rattle.br_store.proofs.Compiled.{pick}
 use Rattle.br_store.proofs.Syntax.{core_of, select_of, shows_at, from_table, out_from}

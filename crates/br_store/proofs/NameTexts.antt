@@ -14,9 +14,9 @@ use Rattle.sqlite_resolve.specs.Program.{program}
 use Rattle.sqlite_tied.specs.Compute.{everything}
 use Rattle.br_store.specs.declared.name_numbers.Dictionary.{Dictionary}
 use Rattle.br_store.specs.declared.name_numbers.Dictionary.TheVariants.{Client, FileSet, Media, Path}
-use Rattle.br_catalog_rows.specs.TreePlaces.{Layout}
-use Rattle.br_catalog_rows.specs.Tables.{column, key_column, client, fileset, media, path}
-use Rattle.br_catalog_rows.specs.KnownSchemas.{HasAll, Owns, with_own}
+use Rattle.br_catalog_tables.specs.TreePlaces.{Layout}
+use Rattle.br_catalog_tables.specs.Tables.{column, key_column, client, fileset, media, path}
+use Rattle.br_catalog_tables.specs.KnownSchemas.{HasAll, Owns, with_own}
 use Rattle.br_store.specs.Names.{tree_of, select_text}
 use Rattle.br_store.proofs.Asks.{Shows}
 use Rattle.br_store.proofs.NameQueries.{CanAsk, asked_of, asks_is, bound_of, draft_of}

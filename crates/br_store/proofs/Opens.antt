@@ -13,9 +13,9 @@ use Rattle.sqlite_trees.specs.Objects.{catalog_tree, IsListed}
 use Rattle.sqlite_trees.specs.declared.store.Shape.TheVariants.{Table}
 use Rattle.sqlite_catalog.specs.Listing.{AreListed, IsTableRow, is_table_row}
 use Rattle.sqlite_catalog.proofs.LayoutLemmas.{laid_out, objects_rise}
-use Rattle.br_catalog_rows.specs.TreePlaces.{Layout}
-use Rattle.br_catalog_rows.specs.Tables.{no_schema, tables_at, version}
-use Rattle.br_catalog_rows.specs.KnownSchemas.{HasVersionTable, IsStoreSchema, Stands, with_own}
+use Rattle.br_catalog_tables.specs.TreePlaces.{Layout}
+use Rattle.br_catalog_tables.specs.Tables.{no_schema, tables_at, version}
+use Rattle.br_catalog_tables.specs.KnownSchemas.{HasVersionTable, IsStoreSchema, Stands, with_own}
 use Rattle.sqlite_rules.proofs.ListLemmas.{all_has}
 use Rattle.br_store.specs.Held.{HasTables, HasVersions}
 use Rattle.br_store.specs.Made.{Finds, IsMade}

@@ -14,7 +14,7 @@ use Rattle.sqlite_sql.specs.declared.ops.CompareOp.TheVariants.{Eq}
 use Rattle.sqlite_rules.specs.Lists.{Has}
 use Rattle.sqlite_rules.proofs.ListLemmas.{all_from, all_has}
 use Rattle.sqlite_trees.proofs.ListLemmas.{all-permutation, all-flat_map}
-use Rattle.br_catalog_rows.specs.TreePlaces.{Layout}
+use Rattle.br_catalog_tables.specs.TreePlaces.{Layout}
 use Rattle.br_store.specs.Calls.{KeepsSettled}
 use Rattle.br_store.specs.Held.{IsName, IsNumberAt, IsNumberOf, layout_in}
 use Rattle.br_store.specs.Names.{tree_of, word}

@@ -35,9 +35,9 @@ use Rattle.sqlite_resolve.specs.Order.{sorts}
 use Rattle.sqlite_resolve.specs.Expr.{lower}
 use Rattle.sqlite_resolve.specs.Select.{ungrouped}
 use Rattle.sqlite_tied.specs.Compute.{everything}
-use Rattle.br_catalog_rows.specs.TreePlaces.{Layout}
-use Rattle.br_catalog_rows.specs.Tables.{column, key_column, job_media, media}
-use Rattle.br_catalog_rows.specs.KnownSchemas.{HasAll, Owns, with_own}
+use Rattle.br_catalog_tables.specs.TreePlaces.{Layout}
+use Rattle.br_catalog_tables.specs.Tables.{column, key_column, job_media, media}
+use Rattle.br_catalog_tables.specs.KnownSchemas.{HasAll, Owns, with_own}
 use Rattle.br_store.proofs.Asks.{Shows, shows_from, spans_query, select_spans, span_names}
 use Rattle.br_store.proofs.Compiled.{pick}
 use Rattle.br_store.proofs.Syntax.{core_of, select_of, order_by, from_table, out_from}

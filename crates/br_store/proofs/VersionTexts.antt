@@ -31,8 +31,8 @@ use Rattle.sqlite_resolve.specs.Order.{sorts}
 use Rattle.sqlite_resolve.specs.Expr.{lower}
 use Rattle.sqlite_resolve.specs.Select.{ungrouped}
 use Rattle.sqlite_tied.specs.Compute.{everything}
-use Rattle.br_catalog_rows.specs.Tables.{column, version}
-use Rattle.br_catalog_rows.specs.KnownSchemas.{Own, Stands, with_own}
+use Rattle.br_catalog_tables.specs.Tables.{column, version}
+use Rattle.br_catalog_tables.specs.KnownSchemas.{Own, Stands, with_own}
 use Rattle.br_store.proofs.Asks.{Shows, shows_from, versions_query, select_versions, version_names}
 use Rattle.br_store.proofs.Compiled.{pick}
 use Rattle.br_store.proofs.Syntax.{core_of, select_of, order_by, from_table, out_from}

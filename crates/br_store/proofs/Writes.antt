@@ -16,9 +16,9 @@ use Rattle.sqlite_trees.proofs.TreeLemmas.{IsShaped-put_row}
 use Rattle.sqlite.specs.State.{State, KeepsCommit, IsUnchanged}
 use Rattle.br_store.specs.declared.name_numbers.Dictionary.{Dictionary}
 use Rattle.br_store.specs.declared.name_numbers.Dictionary.TheVariants.{Client, FileSet, Media, Path}
-use Rattle.br_catalog_rows.specs.TreePlaces.{Layout}
-use Rattle.br_catalog_rows.specs.Tables.{tables_at}
-use Rattle.br_catalog_rows.specs.KnownSchemas.{HasAll, Owns, Stands}
+use Rattle.br_catalog_tables.specs.TreePlaces.{Layout}
+use Rattle.br_catalog_tables.specs.Tables.{tables_at}
+use Rattle.br_catalog_tables.specs.KnownSchemas.{HasAll, Owns, Stands}
 use Rattle.br_store.specs.Names.{tree_of, word, name_row}
 use Rattle.br_catalog_rows.specs.Decode.{job_row, span_row, file_row, digest_text, front, rest, high, low}
 use Rattle.br_model.specs.Job.{JobRow, FileRow, Span, JobRows}

@@ -26,13 +26,13 @@ use Rattle.br_store.specs.Names.{tree_of, word}
 use Rattle.br_catalog_rows.specs.Rows.{Rows, with_file_row, with_job, with_spans}
 use Rattle.sqlite_trees.specs.Objects.{catalog_tree, number_in}
 use Rattle.sqlite_catalog.specs.Listing.{is_table_row}
-use Rattle.br_catalog_rows.specs.TreePlaces.{Layout, row_number, version_id, name_column}
-use Rattle.br_catalog_rows.specs.TreePlaces.{job_type, job_level, job_client, job_status, job_start_time, job_fileset}
-use Rattle.br_catalog_rows.specs.TreePlaces.{job_session_id, job_session_time, span_job, span_media, span_first_index, span_last_index}
-use Rattle.br_catalog_rows.specs.TreePlaces.{span_start_file, span_end_file, span_start_block, span_end_block, span_vol_index}
-use Rattle.br_catalog_rows.specs.TreePlaces.{file_index, file_job, file_path, file_filename, file_lstat, file_md5}
-use Rattle.br_catalog_rows.specs.Tables.{tables_at, version}
-use Rattle.br_catalog_rows.specs.KnownSchemas.{HasAll, Own, Owns, Stands, with_own}
+use Rattle.br_catalog_tables.specs.TreePlaces.{Layout, row_number, version_id, name_column}
+use Rattle.br_catalog_tables.specs.TreePlaces.{job_type, job_level, job_client, job_status, job_start_time, job_fileset}
+use Rattle.br_catalog_tables.specs.TreePlaces.{job_session_id, job_session_time, span_job, span_media, span_first_index, span_last_index}
+use Rattle.br_catalog_tables.specs.TreePlaces.{span_start_file, span_end_file, span_start_block, span_end_block, span_vol_index}
+use Rattle.br_catalog_tables.specs.TreePlaces.{file_index, file_job, file_path, file_filename, file_lstat, file_md5}
+use Rattle.br_catalog_tables.specs.Tables.{tables_at, version}
+use Rattle.br_catalog_tables.specs.KnownSchemas.{HasAll, Own, Owns, Stands, with_own}
 
 -- ---- where the tables are
 

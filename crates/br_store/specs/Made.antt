@@ -12,7 +12,7 @@ use Rattle.br_catalog_rows.specs.Fault.{IsStoreFault}
 use Rattle.br_catalog_rows.specs.declared.fault.StoreFault.{StoreFault}
 use Rattle.br_catalog_rows.specs.declared.fault.StoreFault.TheVariants.{BadCatalogue, Memory, OldCatalogue}
 use Rattle.br_catalog_rows.specs.Rows.{no_rows}
-use Rattle.br_catalog_rows.specs.Tables.{no_schema}
+use Rattle.br_catalog_tables.specs.Tables.{no_schema}
 use Rattle.br_store.specs.Held.{HasTables, HasVersions, rows_in, versions_in}
 
 -- a database with these tables, which have no row

@@ -3,7 +3,7 @@
 ghost use Rattle.std.specs.Prelude.{◌≡◌, false, None, IsTrue, IfOk, IfErr, OnOk, OnErr};
 ghost use Rattle.sqlite.specs.Held.{state};
 ghost use Rattle.sqlite.specs.State.{IsUnchanged};
-ghost use Rattle.br_catalog_rows.specs.Tables.{no_schema};
+ghost use Rattle.br_catalog_tables.specs.Tables.{no_schema};
 ghost use Rattle.br_store.specs.Calls.{CommitsNothing, IsJustOpened, IsSame, KeepsSettled, MayMake, OnCleanDisk};
 ghost use Rattle.br_store.specs.Calls.{ShowsVersions, StaysIdle, WhileClean};
 ghost use Rattle.br_store.specs.Held.{IsCatalogue, versions_in};
@@ -13,7 +13,8 @@ ghost use Rattle.br_store.specs.Made.{Finds, IsMade, IsOpenFault, IsWhy, version
 use crate::queries::versions;
 use crate::tables::make_tables;
 use crate::version::refusal_of;
-use br_catalog_rows::{StoreFault, has_version, is_empty, is_ours};
+use br_catalog_rows::StoreFault;
+use br_catalog_tables::{has_version, is_empty, is_ours};
 use sqlite::{Alter, Connection, Error, ErrorCode};
 use std::alloc::Global;
 

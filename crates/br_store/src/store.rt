@@ -3,7 +3,7 @@
 ghost use Rattle.std.specs.Prelude.{◌≡◌, false, None, IsTrue, IfOk, IfErr, OnOk, OnErr};
 ghost use Rattle.sqlite.specs.Held.{state};
 ghost use Rattle.br_model.specs.Answer.{Answers};
-ghost use Rattle.br_catalog_rows.specs.Tables.{no_schema};
+ghost use Rattle.br_catalog_tables.specs.Tables.{no_schema};
 ghost use Rattle.br_catalog_rows.specs.Fault.{IsStoreFault, cause, of_rows_fault};
 ghost use Rattle.br_catalog_rows.specs.Load.{read_history};
 ghost use Rattle.br_catalog_rows.specs.Rows.{no_rows};

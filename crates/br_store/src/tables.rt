@@ -2,7 +2,7 @@
 
 ghost use Rattle.std.specs.Prelude.{OnOk, OnErr};
 ghost use Rattle.sqlite.specs.State.{KeepsCommit};
-ghost use Rattle.br_catalog_rows.specs.Tables.{no_schema, three_tables, five_tables, new_schema};
+ghost use Rattle.br_catalog_tables.specs.Tables.{no_schema, three_tables, five_tables, new_schema};
 ghost use Rattle.br_store.specs.Calls.{BorrowsSame, CommitsNothing, InEmptied};
 ghost use Rattle.br_store.specs.Made.{HasMade, MakesTables};
 

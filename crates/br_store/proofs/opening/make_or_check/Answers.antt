@@ -2,8 +2,8 @@ use Rattle.std.proofs.Common.{◌≡◌, None, arith, refl, ap, sym, subst, subs
 use Rattle.sqlite.specs.Effect.{Database, IsDatabase}
 use Rattle.sqlite.specs.Held.{state}
 use Rattle.sqlite.specs.State.{HasCleanDisk}
-use Rattle.br_catalog_rows.specs.Tables.{no_schema}
-use Rattle.br_catalog_rows.specs.KnownSchemas.{HasVersionTable, IsStoreSchema}
+use Rattle.br_catalog_tables.specs.Tables.{no_schema}
+use Rattle.br_catalog_tables.specs.KnownSchemas.{HasVersionTable, IsStoreSchema}
 use Rattle.br_catalog_rows.specs.Rows.{Rows}
 use Rattle.br_store.specs.Calls.{AreRising, IsSame}
 use Rattle.br_store.specs.Held.{versions_in}

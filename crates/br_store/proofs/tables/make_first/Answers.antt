@@ -1,6 +1,6 @@
 use Rattle.std.proofs.Common.{◌∙◌, arith}
 use Rattle.sqlite.specs.Held.{state}
-use Rattle.br_catalog_rows.specs.Tables.{create_version, create_client, create_fileset, version, client, fileset, no_schema, one_table, two_tables, three_tables}
+use Rattle.br_catalog_tables.specs.Tables.{create_version, create_client, create_fileset, version, client, fileset, no_schema, one_table, two_tables, three_tables}
 use Rattle.br_store.proofs.Makes.{makes_version, makes_client, makes_fileset, after_version, after_client, after_fileset}
 use Rattle.br_store.proofs.Creates.{emptied_more}
 use Rattle.br_store.proofs.tables.make_first.Goals as goal

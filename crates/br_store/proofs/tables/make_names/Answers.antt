@@ -1,6 +1,6 @@
 use Rattle.std.proofs.Common.{◌∙◌, arith}
 use Rattle.sqlite.specs.Held.{state}
-use Rattle.br_catalog_rows.specs.Tables.{create_media, create_path, media, path, three_tables, four_tables, five_tables}
+use Rattle.br_catalog_tables.specs.Tables.{create_media, create_path, media, path, three_tables, four_tables, five_tables}
 use Rattle.br_store.proofs.Makes.{makes_media, makes_path, after_media, after_path}
 use Rattle.br_store.proofs.Creates.{emptied_more}
 use Rattle.br_store.proofs.tables.make_names.Goals as goal

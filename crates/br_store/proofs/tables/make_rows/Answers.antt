@@ -1,6 +1,6 @@
 use Rattle.std.proofs.Common.{◌∙◌, arith}
 use Rattle.sqlite.specs.Held.{state}
-use Rattle.br_catalog_rows.specs.Tables.{create_job, create_job_media, create_file, job, job_media, file, five_tables, six_tables, seven_tables, new_schema}
+use Rattle.br_catalog_tables.specs.Tables.{create_job, create_job_media, create_file, job, job_media, file, five_tables, six_tables, seven_tables, new_schema}
 use Rattle.br_store.proofs.Makes.{makes_job, makes_job_media, makes_file, after_job, after_job_media, after_file}
 use Rattle.br_store.proofs.Creates.{emptied_more}
 use Rattle.br_store.proofs.tables.make_rows.Goals as goal

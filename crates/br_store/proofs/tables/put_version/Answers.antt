@@ -1,7 +1,7 @@
 use Rattle.sqlite.specs.Held.{state}
-use Rattle.br_catalog_rows.specs.TreePlaces.{new_layout}
-use Rattle.br_catalog_rows.specs.Tables.{new_schema}
-use Rattle.br_catalog_rows.specs.KnownSchemas.{no_owns}
+use Rattle.br_catalog_tables.specs.TreePlaces.{new_layout}
+use Rattle.br_catalog_tables.specs.Tables.{new_schema}
+use Rattle.br_catalog_tables.specs.KnownSchemas.{no_owns}
 use Rattle.br_store.proofs.Lookups.{new_stands}
 use Rattle.br_store.proofs.Inserts.{puts_version}
 use Rattle.br_store.proofs.Creates.{made_version}

@@ -1,5 +1,0 @@
-use Rattle.std.proofs.Common.{length}
-use Rattle.br_catalog_rows.proofs.old_schema.+all_stand.Given as goal
-
-abbrev pub decreases-all_stand : goal.decreases-all_stand
-decreases-all_stand l = length l.shapes.now

@@ -1,5 +1,0 @@
-use Rattle.std.proofs.Common.{length}
-use Rattle.br_catalog_rows.proofs.old_schema.+fit_indexes.Given as goal
-
-abbrev pub decreases-fit_indexes : goal.decreases-fit_indexes
-decreases-fit_indexes l = length l.indexes.now
