@@ -31,6 +31,10 @@ version_id = 1
 abbrev pub name_column : ℕ
 name_column = 2
 
+-- the type of a volume in the table Media
+abbrev pub media_type : ℕ
+media_type = 3
+
 abbrev pub job_type : ℕ
 job_type = 2
 

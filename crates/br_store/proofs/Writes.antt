@@ -1,5 +1,5 @@
 -- What helpers write, as the rows that are then there.
-use Rattle.std.proofs.Common.{◌≡◌, ◌⊎◌, inl, inr, ℕ, ℤ, List, [], ◌∷◌, ◌++◌, Bool, true, false, map, find, bytes_eq, Option, unwrap_or, IsTrue, ◌==◌, append-nil, append_assoc, Result, Ok, Err, OnOk, refl, sym, ap, ap₂, subst, pos, ◌∙◌}
+use Rattle.std.proofs.Common.{codes, ◌≡◌, ◌⊎◌, inl, inr, ℕ, ℤ, List, [], ◌∷◌, ◌++◌, Bool, true, false, map, find, bytes_eq, Option, unwrap_or, IsTrue, ◌==◌, append-nil, append_assoc, Result, Ok, Err, OnOk, refl, sym, ap, ap₂, subst, pos, ◌∙◌}
 use Rattle.std.proofs.lemmas.Bool.Decides.{Decides-eqb}
 use Rattle.std.proofs.lemmas.Slice.Eq.{bytes_eq-Decides}
 use Rattle.std.specs.List.{AllByRecursion}
@@ -13,17 +13,19 @@ use Rattle.sqlite.specs.Effect.{Database}
 use Rattle.sqlite.specs.View.{IsShaped, is_int}
 use Rattle.sqlite_trees.specs.declared.store.Shape.TheVariants.{Table as Shaped}
 use Rattle.sqlite_trees.proofs.TreeLemmas.{IsShaped-put_row}
+use Rattle.sqlite_rules.specs.Lists.{Has}
+use Rattle.sqlite_rules.proofs.TableLemmas.{put_has}
 use Rattle.sqlite.specs.State.{State, KeepsCommit, IsUnchanged}
 use Rattle.br_store.specs.declared.name_numbers.Dictionary.{Dictionary}
 use Rattle.br_store.specs.declared.name_numbers.Dictionary.TheVariants.{Client, FileSet, Media, Path}
-use Rattle.br_catalog_tables.specs.TreePlaces.{Layout}
+use Rattle.br_catalog_tables.specs.TreePlaces.{Layout, media_type}
 use Rattle.br_catalog_tables.specs.Tables.{tables_at}
 use Rattle.br_catalog_tables.specs.KnownSchemas.{HasAll, Owns, Stands}
 use Rattle.br_store.specs.Names.{tree_of, word, name_row}
 use Rattle.br_catalog_rows.specs.Decode.{job_row, span_row, file_row, digest_text, front, rest, high, low}
 use Rattle.br_model.specs.Job.{JobRow, FileRow, Span, JobRows}
 use Rattle.br_catalog_rows.specs.Rows.{Rows, with_job, with_spans, with_files, with_rows, with_file_row}
-use Rattle.br_store.specs.Held.{name_at, Added, HasTables, Wrote, GoesOn, IsNameAt, IsName, layout_in, rows_at, rows_in, job_shown, span_shown, file_shown}
+use Rattle.br_store.specs.Held.{name_at, Added, AddsMedia, HasTables, Wrote, GoesOn, IsNameAt, IsName, layout_in, media_in, rows_at, rows_in, job_shown, span_shown, file_shown}
 use Rattle.br_store.proofs.Joined.{HasGrown, AreKnown, are_known, grown_has, find_row, put-map, same_jobs, same_spans, same_files}
 use Rattle.br_store.proofs.Appends.{map-append, put_next}
 use Rattle.br_store.proofs.Layouts.{has_here, layout_is}
@@ -98,10 +100,30 @@ still_stands l tree row old new keyed was tables a =
       },
     )
 
+-- each row of a table, after one row was added to one tree, was there before or has the type `File`
+typed_at : (t tree : ℕ) (row : Row) (old new : Trees) → new tree ≡ put_row row (old tree) → ((t ≡ tree → ⊥) → new t ≡ old t) → (t ≡ tree → column row media_type ≡ Text (codes "File"))
+    → (x : Row) → Has (new t) x → Has (old t) x ⊎ (column x media_type ≡ Text (codes "File"))
+typed_at t tree row old new put same typed x has = elim (decide t tree) [
+  | inl e ↦ elim (put_has row (old t) x (subst (λ (rows : List Row). Has rows x) (ap new e ∙ put ∙ ap (λ n. put_row row (old n)) (sym e)) has)) [
+    | inl is ↦ inr (ap (λ (r : Row). column r media_type) is ∙ typed e)
+    | inr before ↦ inl before
+  ]
+  | inr away ↦ inl (subst (λ (rows : List Row). Has rows x) (same away) has)
+]
+
+-- the volumes after one row was added to one table
+adds_media : (l : Layout) (tree : ℕ) (row : Row) (old new : Database) → layout_in old.trees ≡ l → layout_in new.trees ≡ l → Added old.schema l tree row old new
+    → (l.media ≡ tree → column row media_type ≡ Text (codes "File")) → AddsMedia old.trees new.trees
+adds_media l tree row old new was now a typed = record {
+  typed = λ x has.
+      subst (λ (m : Layout). Has (old.trees m.media) x ⊎ (column x media_type ≡ Text (codes "File"))) (sym was)
+      (typed_at l.media tree row old.trees new.trees a.rows a.others.1.1.1.0 typed x (subst (λ (m : Layout). Has (new.trees m.media) x) now has));
+}
+
 -- what one more row of a table makes of the rows
 pub wrote_row : (l : Layout) (tree : ℕ) (row : Row) (rows : Rows) (old new : State) → IsTrue (is_int (rowid row)) → layout_in old.now.trees ≡ l → HasTables old.now → GoesOn old new
-    → Added old.now.schema l tree row old.now new.now → rows_at l new.now.trees ≡ rows → Wrote rows old new
-wrote_row l tree row rows old new keyed was tables on a has =
+    → (l.media ≡ tree → column row media_type ≡ Text (codes "File")) → Added old.now.schema l tree row old.now new.now → rows_at l new.now.trees ≡ rows → Wrote rows old new
+wrote_row l tree row rows old new keyed was tables on typed a has =
     let still = still_stands l tree row old.now new.now keyed was tables a in
     let now = still.0 in
     record {
@@ -111,6 +133,7 @@ wrote_row l tree row rows old new keyed was tables on a has =
       tables = still.1;
       names = λ d name id is. subst (λ (m : Layout). IsNameAt m new.now.trees d name id) (sym now)
           (names_kept l old.now.trees new.now.trees (names_grow old.now.schema l tree row old.now new.now a) d name id (subst (λ (m : Layout). IsNameAt m old.now.trees d name id) was is));
+      media = adds_media l tree row old.now new.now was now a typed;
       has = ap (λ (m : Layout). rows_at m new.now.trees) now ∙ has;
     }
 
@@ -162,6 +185,13 @@ name_keyed FileSet id name more = refl
 name_keyed Media id name more = refl
 name_keyed Path id name more = refl
 
+-- of the rows of names only those of volumes are in the table of volumes
+name_typed : (l : Layout) (d : Dictionary) (id : ℤ) (name : List ℕ) (more : Row) → AreApart l → l.media ≡ tree_of l d → column (name_row d id name ++ more) media_type ≡ Text (codes "File")
+name_typed l Client id name more h e = absurd (h.1.0.1.0 (sym e))
+name_typed l FileSet id name more h e = absurd (h.1.1.0.0 (sym e))
+name_typed l Media id name more h e = refl
+name_typed l Path id name more h e = absurd (h.1.1.1.0.0 e)
+
 pub wrote_name : (d : Dictionary) (name : List ℕ) (old new : State) → HasTables old.now → GoesOn old new
     → (more : Row) → Added old.now.schema (layout_in old.now.trees) (tree_of (layout_in old.now.trees) d) (name_row d (next_rowid (old.now.trees (tree_of (layout_in old.now.trees) d))) name ++ more) old.now new.now
     → Wrote (rows_in old.now.trees) old new
@@ -169,7 +199,7 @@ wrote_name d name old new tables on more a =
     let l = layout_in old.now.trees in
     let h : AreApart l = apart_of old.now.schema l tables.own tables.schema in
     let row = name_row d (next_rowid (old.now.trees (tree_of l d))) name ++ more in
-    wrote_row l (tree_of l d) row (rows_in old.now.trees) old new (name_keyed d _ name more) refl tables on a
+    wrote_row l (tree_of l d) row (rows_in old.now.trees) old new (name_keyed d _ name more) refl tables on (name_typed l d _ name more h) a
     (rows_are l old.now.trees new.now.trees
     (a.others.0 (apart l d (λ n. l.version ≡ n → ⊥) h.0.0 h.0.1.0 h.0.1.1.0 h.0.1.1.1.0))
     (names_grow old.now.schema l (tree_of l d) row old.now new.now a) (are_known l tables.own old.now tables.schema tables.sound)
@@ -205,7 +235,7 @@ wrote_job j client fileset old new tables on is_client is_fileset more a =
     let spans : (rows_at l after).spans ≡ (rows_in before).spans = ap₂ (λ m s. map (span_shown m) s) (a.others.1.1.1.0 h.1.1.1.0.1.0) (a.others.1.1.1.1.1.1.0 (λ e. h.1.1.1.1.1.0.0 (sym e))) in
     let files : (rows_at l after).files ≡ (rows_in before).files =
     ap (λ p. map (file_shown p) (after l.file)) (a.others.1.1.1.1.0 h.1.1.1.1.0.0) ∙ ap (map (file_shown (before l.path))) (a.others.1.1.1.1.1.1.1.0 (λ e. h.1.1.1.1.1.0.1.0 (sym e))) in
-    wrote_row l l.job row (with_job j (rows_in before)) old new refl refl tables on a (four _ _ versions jobs spans files)
+    wrote_row l l.job row (with_job j (rows_in before)) old new refl refl tables on (λ e. absurd (h.1.1.1.0.1.0 e)) a (four _ _ versions jobs spans files)
 
 pub wrote_span : (job : ℕ) (s : Span) (media : ℕ) (old new : State) → HasTables old.now → GoesOn old new → IsName old.now.trees Media s.volume media
     → (more : Row) → Added old.now.schema (layout_in old.now.trees) (layout_in old.now.trees).job_media (Int (next_rowid (old.now.trees (layout_in old.now.trees).job_media)) ∷ Null ∷ Int (pos job) ∷ Int (pos media) ∷ Int (pos s.first) ∷ Int (pos s.last) ∷ Int (pos (high s.start)) ∷ Int (pos (high s.end)) ∷ Int (pos (low s.start)) ∷ Int (pos (low s.end)) ∷ Int (pos s.vol_index) ∷ more) old.now new.now
@@ -228,7 +258,7 @@ wrote_span job s media old new tables on is_media more a =
     ap₂ (λ c f. map (job_shown c f) (after l.job)) (a.others.1.0 h.1.0.1.1.1.1.0) (a.others.1.1.0 h.1.1.0.1.1.1.0) ∙ ap (map (job_shown (before l.client) (before l.fileset))) (a.others.1.1.1.1.1.0 h.1.1.1.1.1.0.0) in
     let files : (rows_at l after).files ≡ (rows_in before).files =
     ap (λ p. map (file_shown p) (after l.file)) (a.others.1.1.1.1.0 h.1.1.1.1.0.1.0) ∙ ap (map (file_shown (before l.path))) (a.others.1.1.1.1.1.1.1.0 (λ e. h.1.1.1.1.1.1.0.0 (sym e))) in
-    wrote_row l l.job_media row (with_spans job (s ∷ []) (rows_in before)) old new refl refl tables on a (four _ _ versions jobs spans files)
+    wrote_row l l.job_media row (with_spans job (s ∷ []) (rows_in before)) old new refl refl tables on (λ e. absurd (h.1.1.1.0.1.1.0 e)) a (four _ _ versions jobs spans files)
 
 pub wrote_file : (index job path : ℕ) (front rest lstat digest : List ℕ) (old new : State) → HasTables old.now → GoesOn old new
     → IsName old.now.trees Path front path
@@ -252,7 +282,7 @@ wrote_file index job path front rest lstat digest old new tables on is_path more
     let jobs : (rows_at l after).jobs ≡ (rows_in before).jobs =
     ap₂ (λ c f. map (job_shown c f) (after l.job)) (a.others.1.0 h.1.0.1.1.1.1.1.0) (a.others.1.1.0 h.1.1.0.1.1.1.1.0) ∙ ap (map (job_shown (before l.client) (before l.fileset))) (a.others.1.1.1.1.1.0 h.1.1.1.1.1.0.1.0) in
     let spans : (rows_at l after).spans ≡ (rows_in before).spans = ap₂ (λ m s. map (span_shown m) s) (a.others.1.1.1.0 h.1.1.1.0.1.1.1.0) (a.others.1.1.1.1.1.1.0 h.1.1.1.1.1.1.0.0) in
-    wrote_row l l.file row (with_file_row shows (rows_in before)) old new refl refl tables on a (four _ _ versions jobs spans files)
+    wrote_row l l.file row (with_file_row shows (rows_in before)) old new refl refl tables on (λ e. absurd (h.1.1.1.0.1.1.1.0 e)) a (four _ _ versions jobs spans files)
 
 -- ---- one after the other
 
@@ -263,6 +293,7 @@ wrote_none old new inside tables same = record {
   committed = same.0.committed_is;
   tables = subst HasTables (sym same.0.now_is) tables;
   names = λ d name id is. subst (λ (db : Database). IsName db.trees d name id) (sym same.0.now_is) is;
+  media = record { typed = λ x has. inl (subst (λ (db : Database). Has (media_in db.trees) x) same.0.now_is has) };
   has = ap (λ (db : Database). rows_in db.trees) same.0.now_is;
 }
 
@@ -273,6 +304,7 @@ wrote_then rows more a b c one two = record {
   committed = two.committed ∙ one.committed;
   tables = two.tables;
   names = λ d name id is. two.names d name id (one.names d name id is);
+  media = record { typed = λ x has. elim (two.media.typed x has) [ inl mid ↦ one.media.typed x mid | inr is ↦ inr is ] };
   has = two.has;
 }
 

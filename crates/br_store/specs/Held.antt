@@ -1,5 +1,5 @@
 -- The rows in a database, with names in place of numbers, and the rows that a call adds.
-use Rattle.std.specs.Prelude.{◌≡◌, ℕ, ◌-◌, pos, List, [], ◌∷◌, Bool, true, map, filter, find, unwrap_or, codes, bytes_eq, IsTrue, false, Option, Result, IfSome, OnOk}
+use Rattle.std.specs.Prelude.{◌≡◌, ◌⊎◌, ℕ, ◌-◌, pos, List, [], ◌∷◌, Bool, true, map, filter, find, unwrap_or, codes, bytes_eq, IsTrue, false, Option, Result, IfSome, OnOk}
 use Rattle.std.specs.List.{AllByRecursion}
 use Rattle.sqlite.specs.declared.types.Value.TheVariants.{Int, Text, Blob}
 use Rattle.sqlite.specs.declared.types.Value.{Value}
@@ -26,7 +26,7 @@ use Rattle.br_store.specs.Names.{tree_of, word}
 use Rattle.br_catalog_rows.specs.Rows.{Rows, with_file_row, with_job, with_spans}
 use Rattle.sqlite_trees.specs.Objects.{catalog_tree, number_in}
 use Rattle.sqlite_catalog.specs.Listing.{is_table_row}
-use Rattle.br_catalog_tables.specs.TreePlaces.{Layout, row_number, version_id, name_column}
+use Rattle.br_catalog_tables.specs.TreePlaces.{Layout, row_number, version_id, name_column, media_type}
 use Rattle.br_catalog_tables.specs.TreePlaces.{job_type, job_level, job_client, job_status, job_start_time, job_fileset}
 use Rattle.br_catalog_tables.specs.TreePlaces.{job_session_id, job_session_time, span_job, span_media, span_first_index, span_last_index}
 use Rattle.br_catalog_tables.specs.TreePlaces.{span_start_file, span_end_file, span_start_block, span_end_block, span_vol_index}
@@ -185,13 +185,23 @@ FindsName old new dictionary name found = IsUnchanged old new × IfSome found (I
 abbrev pub GoesOn : State → State → Type 0
 GoesOn old new = Shows old new new.now old.committed true
 
--- the transaction goes on with these rows, each name keeps its number, and nothing is committed
+-- the rows of the table of volumes
+abbrev pub media_in : Trees → List Row
+media_in trees = trees (tree_named trees (codes "Media"))
+
+-- each volume that was added has the type `File`
+pub record AddsMedia (old new : Trees) : Type 0 where
+  pub typed : (row : Row) → Has (media_in new) row → Has (media_in old) row ⊎ (column row media_type ≡ Text (codes "File"))
+
+-- The transaction goes on with these rows, each name keeps its number, and nothing is committed. Each
+-- volume that was added has the type `File`.
 pub record Wrote (rows : Rows) (old new : State) : Type 0 where
   pub was_open : IsTrue new.is_open → IsTrue old.is_open
   pub mode : IsTrue new.in_transaction
   pub committed : new.committed ≡ old.committed
   pub tables : HasTables new.now
   pub names : (d : Dictionary) (name : List ℕ) (id : ℕ) → IsName old.now.trees d name id → IsName new.now.trees d name id
+  pub media : AddsMedia old.now.trees new.now.trees
   pub has : rows_in new.now.trees ≡ rows
 
 -- the transaction goes on with the rows that this makes of those before

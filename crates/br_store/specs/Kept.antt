@@ -7,7 +7,7 @@ use Rattle.br_model.specs.Job.{JobRows}
 use Rattle.br_catalog_rows.specs.Load.{read_history}
 use Rattle.br_catalog_rows.specs.declared.fault.StoreFault.{StoreFault}
 use Rattle.br_catalog_rows.specs.declared.fault.StoreFault.TheVariants as store
-use Rattle.br_store.specs.Held.{rows_in}
+use Rattle.br_store.specs.Held.{AddsMedia, rows_in}
 use Rattle.br_store.specs.Calls.{AddsJob, CommitsNothing, IsCommitted, IsDurable, IsSame, MayCommit, OnCleanDisk}
 use Rattle.br_keeper.specs.declared.job_store.JobStoreFault.{JobStoreFault}
 use Rattle.br_keeper.specs.declared.job_store.JobStoreFault.TheVariants.{Memory, Store, BadCatalogue}
@@ -25,10 +25,12 @@ load_cause Memory = None
 load_cause Store = None
 load_cause BadCatalogue = Some 47
 
--- The job was new, its rows are added, and all is committed. A crash now leaves exactly these rows.
--- A crash during the call left what it could leave before, or these rows.
+-- The job was new, its rows are added, each volume that was added has the type `File`, and all is
+-- committed. A crash now leaves exactly these rows. A crash during the call left what it could leave
+-- before, or these rows.
 pub record Inserts {S : Type 0} (g : Ghosts S) (job : JobRows) (old new : Held S) : Type 0 where
   pub added : OnCleanDisk g old new (λ before after. AddsJob job before after)
+  pub media : OnCleanDisk g old new (λ before after. AddsMedia before.now.trees after.now.trees)
   pub settled : OnCleanDisk g old new (λ before after. IsCommitted after)
   pub durable : OnCleanDisk g old new (λ before after. IsDurable after)
   pub crash : MayCommit g old new job

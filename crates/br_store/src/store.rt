@@ -9,7 +9,7 @@ ghost use Rattle.br_catalog_rows.specs.Load.{read_history};
 ghost use Rattle.br_catalog_rows.specs.Rows.{no_rows};
 ghost use Rattle.br_store.specs.Calls.{AddsJob, CommitsNothing, IsCommitted, IsDurable, IsJustOpened, IsReadable, IsSame};
 ghost use Rattle.br_store.specs.Calls.{MayCommit, MayMake, OnCleanDisk, WhileClean};
-ghost use Rattle.br_store.specs.Held.{IsCatalogue, HasTables, rows_in, versions_in};
+ghost use Rattle.br_store.specs.Held.{AddsMedia, IsCatalogue, HasTables, rows_in, versions_in};
 ghost use Rattle.br_store.specs.Made.{Finds, IsLoadFault, IsOpenFault, IsWhy, version_refusal};
 
 use crate::job_writing::write_job;
@@ -86,6 +86,8 @@ impl<S: Alter> Store<S> {
     /// database fails. If the store is still open then, the rows are as before (`refused`).
     pub fn insert_job(&mut self, job: &JobRows) -> Result<(), StoreFault>
         ensures added { OnCleanDisk S.Store self.old self.new (λ old new. OnOk result (AddsJob job.now old new)) }
+        ensures media { OnCleanDisk S.Store self.old self.new (λ old new.
+            OnOk result (AddsMedia old.now.trees new.now.trees)) }
         ensures settled { OnCleanDisk S.Store self.old self.new (λ old new. OnOk result (IsCommitted new)) }
         ensures refused { OnCleanDisk S.Store self.old self.new (λ old new. IsTrue new.is_open → OnErr result (IsSame old new)) }
         ensures crash { MayCommit S.Store self.old self.new job.now }
@@ -146,6 +148,7 @@ fn insert_all<S: Alter>(conn: &mut Connection<S>, job: &JobRows) -> Result<(), E
     ensures tables { OnCleanDisk S.Store conn.old conn.new (λ old new. OnOk result (HasTables new.now)) }
     ensures settled { OnCleanDisk S.Store conn.old conn.new (λ old new. OnOk result (IsCommitted new)) }
     ensures added { OnCleanDisk S.Store conn.old conn.new (λ old new. OnOk result (AddsJob job.now old new)) }
+    ensures media { OnCleanDisk S.Store conn.old conn.new (λ old new. OnOk result (AddsMedia old.now.trees new.now.trees)) }
     ensures refused { OnCleanDisk S.Store conn.old conn.new (λ old new. IsTrue new.is_open → OnErr result (IsSame old new)) }
     ensures crash { MayCommit S.Store conn.old conn.new job.now }
     ensures durable { OnCleanDisk S.Store conn.old conn.new (λ old new. OnOk result (IsDurable new)) }
@@ -161,6 +164,7 @@ fn insert<S: Alter>(conn: &mut Connection<S>, job: &JobRows) -> Result<(), Error
     requires { IsCatalogue S.Store conn.old }
     ensures catalogue { IsCatalogue S.Store conn.new }
     ensures added { OnCleanDisk S.Store conn.old conn.new (λ old new. OnOk result (AddsJob job.now old new)) }
+    ensures media { OnCleanDisk S.Store conn.old conn.new (λ old new. OnOk result (AddsMedia old.now.trees new.now.trees)) }
     ensures settled { OnCleanDisk S.Store conn.old conn.new (λ old new. OnOk result (IsCommitted new)) }
     ensures refused { OnCleanDisk S.Store conn.old conn.new (λ old new. IsTrue new.is_open → OnErr result (IsSame old new)) }
     ensures crash { MayCommit S.Store conn.old conn.new job.now }

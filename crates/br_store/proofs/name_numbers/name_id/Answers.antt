@@ -5,6 +5,14 @@ use Rattle.br_store.specs.Held.{rows_in}
 use Rattle.br_store.proofs.Writes.{wrote_none, wrote_then, wrote_as}
 use Rattle.br_store.proofs.name_numbers.name_id.Goals as goal
 
+pub returns-in-Some-clause-found : goal.returns-in-Some-clause-found
+returns-in-Some-clause-found g c clean inside tables =
+    let a = state g.S.Store c.args.tx.now.conn.now in
+    let b = state g.S.Store c.known_id.new.tx.conn.now in
+    let found = c.in_ok-id.ensures.found clean tables in
+    let one = wrote_none a b inside tables found.0 in
+    (one, one.names c.args.dictionary c.args.name.now c.in-Some.id (rw c.in-Some.is at found.1))
+
 pub returns-in-Some-2-clause-found : goal.returns-in-Some-2-clause-found
 returns-in-Some-2-clause-found g c clean inside tables =
     let a = state g.S.Store c.args.tx.now.conn.now in

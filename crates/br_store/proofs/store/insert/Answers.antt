@@ -6,7 +6,7 @@ use Rattle.sqlite.specs.Held.{state}
 use Rattle.sqlite.proofs.StateLemmas.{survives_then, survives_weaker}
 use Rattle.br_catalog_rows.specs.Inserted.{Adds}
 use Rattle.br_store.specs.Calls.{HasAdded}
-use Rattle.br_store.specs.Held.{HasTables, rows_in}
+use Rattle.br_store.specs.Held.{AddsMedia, HasTables, rows_in}
 use Rattle.br_store.proofs.Ready.{err_with, from_both}
 use Rattle.br_store.proofs.store.insert.Goals as goal
 
@@ -36,6 +36,14 @@ returns-clause-added g c clean =
     let clean_b : HasCleanDisk b = omega (arith, clean, c.insert_all.ensures.crash.clean) in
     let same = c.ready.ensures.same clean_b (c.in_ok-ready.ensures.open clean_b) in
     on_ok_weaker c.insert_all.result (subst (λ (db : Database). Adds c.args.job.now (rows_in db.trees) (rows_in z.now.trees)) same.1) (c.insert_all.ensures.added clean)
+
+pub returns-clause-media : goal.returns-clause-media
+returns-clause-media g c clean =
+    let b = state g.S.Store c.ready.new.conn in
+    let z = state g.S.Store c.insert_all.new.conn in
+    let clean_b : HasCleanDisk b = omega (arith, clean, c.insert_all.ensures.crash.clean) in
+    let same = c.ready.ensures.same clean_b (c.in_ok-ready.ensures.open clean_b) in
+    on_ok_weaker c.insert_all.result (subst (λ (db : Database). AddsMedia db.trees z.now.trees) same.1) (c.insert_all.ensures.media clean)
 
 pub returns-clause-refused : goal.returns-clause-refused
 returns-clause-refused g c clean up =
