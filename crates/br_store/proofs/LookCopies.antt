@@ -1,5 +1,5 @@
 -- A database in memory, and what it shows.
-use Rattle.std.proofs.Common.{◌≡◌, ◌<◌, ◌≤◌, ℕ, ◌+◌, List, [], ◌∷◌, length, slice_index, Option, Some, None, Result, Ok, Err, IfOk, IfSome, refl, arith, subst, subst₂}
+use Rattle.std.proofs.Common.{◌≡◌, ◌<◌, ℕ, List, [], ◌∷◌, length, slice_index, Option, Some, None, Result, Ok, Err, IfOk, IfSome, refl, arith, subst, subst₂}
 use Rattle.std.proofs.lemmas.List.{ext_get_or}
 use Rattle.sqlite_disk.specs.declared.Disk.{Ghosts}
 use Rattle.sqlite_disk.specs.declared.Files.{Files}

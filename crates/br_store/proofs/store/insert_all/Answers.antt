@@ -1,4 +1,4 @@
-use Rattle.std.proofs.Common.{rules, ◌≡◌, true, IsTrue, refl, sym, subst, arith}
+use Rattle.std.proofs.Common.{rules, IsTrue, refl, sym, subst, arith}
 use Rattle.sqlite.specs.Held.{state}
 use Rattle.sqlite.specs.State.{HasCleanDisk, Survives}
 use Rattle.br_catalog_rows.specs.Inserted.{Adds}
