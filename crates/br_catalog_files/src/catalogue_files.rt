@@ -2,13 +2,15 @@
 
 ghost use Rattle.std.specs.Prelude.{◌≡◌, IfOk, OnOk};
 ghost use Rattle.sqlite.specs.Files.{over_files};
+ghost use Rattle.sqlite.specs.Held.{state};
 ghost use Rattle.sqlite.specs.Steps.{IsFresh};
 ghost use Rattle.sqlite_store.specs.FileStore.{view};
 ghost use Rattle.sqlite_trees.specs.View.{IsClean};
 ghost use Rattle.br_catalog_files.specs.FileCatalogue.{IsClosed, IsOpened};
 ghost use Rattle.br_catalog_rows.specs.Fault.{fault_number};
-ghost use Rattle.br_store.specs.Calls.{IsJustOpened};
+ghost use Rattle.br_store.specs.Calls.{IsJustOpened, WhileClean};
 ghost use Rattle.br_store.specs.Look.{look_number};
+ghost use Rattle.br_store.specs.Made.{Finds};
 ghost use Rattle.br_keeper.specs.Catalogue.{catalogue_number};
 
 use br_history::History;
@@ -41,10 +43,12 @@ fn catalogue_fault(fault: StoreFault) -> CatalogueFault
     }
 }
 
-/// Opens the catalogue in a database.
+/// Opens the catalogue in a database, with all that was committed to it. In a database with no
+/// table it makes a catalogue without jobs.
 fn opened<S: Alter + Drop>(alloc: Global, conn: Connection<S>) -> Result<Store<S>, StoreFault>
     requires { IsJustOpened S.Store conn }
-    ensures { IfOk result (λ store. IsOpened S.Store store) }
+    ensures opened { IfOk result (λ store. IsOpened S.Store store) }
+    ensures finds { IfOk result (λ store. WhileClean S.Store store (λ is. Finds (state S.Store conn).committed is.now)) }
 {
     match Store::open(alloc, conn) {
         Ok(store) => Ok(store),
