@@ -26,7 +26,7 @@ apart_too : (x y z : List ℕ) → bytes_eq x y ≡ false → bytes_eq x z ≡ t
 apart_too x y z h e = ap (λ (w : List ℕ). bytes_eq w y) (sym ((bytes_eq-Decides x z).0 e)) ∙ h
 
 -- what a look-up finds at the front, and after it
-abbrev shown_at : Bool → List ℕ → Option (List ℕ) → Option (List ℕ)
+abbrev pub shown_at : Bool → List ℕ → Option (List ℕ) → Option (List ℕ)
 shown_at b bytes found = cond b (Some bytes) found
 
 pub shown_cons : (v : Volume) (vs : List Volume) (name : List ℕ)

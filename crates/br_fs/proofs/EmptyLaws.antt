@@ -28,7 +28,7 @@ below_is folder path e =
           ∙ ap (λ (l : List ℕ). folder ++ l) slash.1,
     )
 
-below_true : (folder path : List ℕ) → IsBelow folder path → is_below folder path ≡ true
+pub below_true : (folder path : List ℕ) → IsBelow folder path → is_below folder path ≡ true
 below_true folder path (rest, is) =
     ap (λ (p : List ℕ). is_below folder p) is
     ∙ and_from _ _ (ap begins_with_slash (drop_at folder (47 ∷ rest) (length folder) refl))

@@ -13,7 +13,7 @@ first_kept bytes true x v found kept one more = rw one refl
 first_kept bytes false x v found kept one more = more
 
 -- a look-up among the files is one among the kept
-bytes_of_kept : {X : Type 0} (name bytes : X → List ℕ) (xs : List X) (n : List ℕ)
+pub bytes_of_kept : {X : Type 0} (name bytes : X → List ℕ) (xs : List X) (n : List ℕ)
     → volume_bytes (map (λ x. record { name = name x; bytes = bytes x }) xs) n ≡ option_map bytes (find (λ x. bytes_eq (name x) n) xs)
 unfolding volume_bytes
 bytes_of_kept name bytes [] n = refl

@@ -6,3 +6,4 @@ pub mod MakingLaws
 pub mod EmptyLaws
 pub mod AbsentLaws
 pub mod AlikeLaws
+pub mod DurableLaws

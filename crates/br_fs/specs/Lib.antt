@@ -3,7 +3,8 @@ pub mod Fault
 pub mod Calls
 pub mod Read
 pub mod Append
-pub mod Memory
+pub mod Durable
 pub mod Making
 pub mod MemMaker
+pub mod Memory
 pub mod Alike

@@ -1,5 +1,7 @@
 ghost use Rattle.std.specs.Prelude.{◌≡◌, ℕ, ◌≤◌, ◌⊎◌, List, [], length, take, Option, None, IfOk, OnErr, OnOk, Err, IsTrue};
+ghost use Rattle.br_model.specs.Volume.{Volume};
 ghost use Rattle.br_fs.specs.Tree.{Tree};
+ghost use Rattle.br_fs.specs.Durable.{Lasts, NamesFiles, SyncsFile};
 ghost use Rattle.br_fs.specs.Calls.{IsAbsent, IsFile, IsNoFile, IsNothing, IsFound, IsReadAt, IsSteady, IsTaken};
 ghost use Rattle.br_fs.specs.Calls.{Appends, KeepsFolders};
 ghost use Rattle.br_fs.specs.declared.fault.DiskFault.TheVariants.{Exists, NotFound};
@@ -16,6 +18,10 @@ pub trait Disk {
 
     /// What the disk has, if it tells it. A disk over memory does, that of the system does not.
     ghost told: { Self → Option Tree };
+
+    /// The files that a crash leaves, with the bytes of them that it leaves at least, if the disk
+    /// tells them. `MayBeLeft` says what else it may leave.
+    ghost durable: { Self → Option (List Volume) };
 
     /// The path under which a file was opened.
     ghost path_of: { Self.File → List ℕ };
@@ -34,6 +40,7 @@ pub trait Disk {
         ensures never { result ≡ Err NotFound → IsAbsent (told self.new) path.now }
         ensures reads { result ≡ Err Exists → steady self.old ≡ None }
         ensures same { told self.new ≡ told self.old }
+        ensures settled { durable self.new ≡ durable self.old }
         ensures steady { IsSteady (steady self.old) (steady self.new) result };
 
     /// Opens the file at the path for reading. What is not a file, such as a pipe, must
@@ -43,6 +50,7 @@ pub trait Disk {
         ensures opened { IfOk result (λ file. path_of file ≡ path.now) }
         ensures missing { result ≡ Err NotFound → IsNoFile (told self.new) path.now }
         ensures same { told self.new ≡ told self.old }
+        ensures settled { durable self.new ≡ durable self.old }
         ensures steady { IsSteady (steady self.old) (steady self.new) result };
 
     /// Opens the file at the path for appending.
@@ -50,6 +58,7 @@ pub trait Disk {
         requires file { IsFile (told self.old) path.now }
         ensures opened { IfOk result (λ file. path_of file ≡ path.now) }
         ensures same { told self.new ≡ told self.old }
+        ensures settled { durable self.new ≡ durable self.old }
         ensures steady { IsSteady (steady self.old) (steady self.new) result };
 
     /// Makes an empty file, which only its owner may read and write, and opens it for appending.
@@ -63,6 +72,7 @@ pub trait Disk {
         ensures made { OnOk result (Appends path.now [] (told self.old) (told self.new)) }
         ensures refused { OnErr result (told self.new ≡ told self.old) }
         ensures taken { result ≡ Err Exists → IsTaken (told self.old) path.now }
+        ensures lasts { Lasts (durable self.old) (durable self.new) }
         ensures folders { KeepsFolders (told self.old) (told self.new) }
         ensures makes { result ≡ Err NotFound → steady self.old ≡ None }
         ensures steady { IsSteady (steady self.old) (steady self.new) result };
@@ -79,6 +89,7 @@ pub trait Disk {
         ensures read { IfOk result (λ n. IsReadAt (told self.new) (path_of file.now) at buf.new n) }
         ensures missing { result ≡ Err NotFound → IsNoFile (told self.new) (path_of file.now) }
         ensures same { told self.new ≡ told self.old }
+        ensures settled { durable self.new ≡ durable self.old }
         ensures steady { IsSteady (steady self.old) (steady self.new) result };
 
     /// Appends the first of the bytes to the file. Returns their number, maybe fewer than all.
@@ -86,7 +97,31 @@ pub trait Disk {
         ensures fits { IfOk result (λ n. n ≤ length bytes.now) }
         ensures written { IfOk result (λ n. Appends (path_of file.old) (take n bytes.now) (told self.old) (told self.new)) }
         ensures refused { OnErr result (told self.new ≡ told self.old) }
+        ensures lasts { Lasts (durable self.old) (durable self.new) }
         ensures file { path_of file.new ≡ path_of file.old }
         ensures some { IfOk result (λ n. n ≡ 0 → (length bytes.now ≡ 0) ⊎ (steady self.old ≡ None)) }
+        ensures steady { IsSteady (steady self.old) (steady self.new) result };
+
+    /// Makes the names of the files in the folder durable.
+    ///
+    /// # Errors
+    ///
+    /// If no folder is at the path, or the disk fails.
+    fn sync_folder(&mut self, path: &str) -> Result<(), DiskFault>
+        ensures named { OnOk result (NamesFiles path.now (told self.old) (durable self.new)) }
+        ensures same { told self.new ≡ told self.old }
+        ensures lasts { Lasts (durable self.old) (durable self.new) }
+        ensures steady { IsSteady (steady self.old) (steady self.new) result };
+
+    /// Makes the bytes of the file durable, if its name is.
+    ///
+    /// # Errors
+    ///
+    /// If the disk fails. A system may drop what was not durable then, and let a later call
+    /// succeed. So a file whose sync failed is not to be trusted again.
+    fn sync(&mut self, file: &Self::File) -> Result<(), DiskFault>
+        ensures synced { OnOk result (SyncsFile (path_of file.now) (told self.old) (durable self.old) (durable self.new)) }
+        ensures same { told self.new ≡ told self.old }
+        ensures lasts { Lasts (durable self.old) (durable self.new) }
         ensures steady { IsSteady (steady self.old) (steady self.new) result };
 }

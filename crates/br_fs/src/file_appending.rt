@@ -1,6 +1,7 @@
 ghost use Rattle.std.specs.Prelude.{◌≡◌, ℕ, ◌<◌, ◌≤◌, ◌⊎◌, List, length, take, Option, None, Err, Ok, IfOk, OnOk, OnErr};
 ghost use Rattle.br_fs.specs.Append.{AppendsInPart};
 ghost use Rattle.br_fs.specs.Calls.{Appends, StaysSteady};
+ghost use Rattle.br_fs.specs.Durable.{Lasts};
 
 use crate::disk::Disk;
 use crate::fault::DiskFault;
@@ -9,11 +10,13 @@ use crate::fault::DiskFault;
 const TRIES: u32 = 1_000;
 
 /// Writes the first of the bytes. Tries again if the write is interrupted.
+#[tactic(auto, using(crate::proofs::DurableLaws::lasts_itself))]
 fn write_some<D: Disk>(disk: &mut D, file: &mut D::File, bytes: &[u8]) -> Result<usize, DiskFault>
     ensures fits { IfOk result (λ n. n ≤ length bytes.now) }
     ensures written { IfOk result (λ n. Appends (D.path_of file.old) (take n bytes.now) (D.told disk.old) (D.told disk.new)) }
     ensures refused { OnErr result (D.told disk.new ≡ D.told disk.old) }
     ensures file { D.path_of file.new ≡ D.path_of file.old }
+    ensures lasts { Lasts (D.durable disk.old) (D.durable disk.new) }
 {
     for _ in 0..TRIES {
         match disk.write(file, bytes) {
@@ -25,11 +28,13 @@ fn write_some<D: Disk>(disk: &mut D, file: &mut D::File, bytes: &[u8]) -> Result
 }
 
 /// Appends some bytes to the file.
+#[tactic(auto, using(crate::proofs::DurableLaws::lasts_itself))]
 fn append_some<D: Disk>(disk: &mut D, file: &mut D::File, bytes: &[u8]) -> Result<(), DiskFault>
     requires some { 0 < length bytes.now }
     ensures all { OnOk result (Appends (D.path_of file.old) bytes.now (D.told disk.old) (D.told disk.new)) }
     ensures part { OnErr result (AppendsInPart (D.path_of file.old) bytes.now (D.told disk.old) (D.told disk.new)) }
     ensures file { D.path_of file.new ≡ D.path_of file.old }
+    ensures lasts { Lasts (D.durable disk.old) (D.durable disk.new) }
 {
     let mut done = 0;
     while done < bytes.len() {
@@ -52,6 +57,7 @@ pub fn append<D: Disk>(disk: &mut D, file: &mut D::File, bytes: &[u8]) -> Result
     ensures all { OnOk result (Appends (D.path_of file.old) bytes.now (D.told disk.old) (D.told disk.new)) }
     ensures part { OnErr result (AppendsInPart (D.path_of file.old) bytes.now (D.told disk.old) (D.told disk.new)) }
     ensures file { D.path_of file.new ≡ D.path_of file.old }
+    ensures lasts { Lasts (D.durable disk.old) (D.durable disk.new) }
 {
     if bytes.is_empty() {
         write_some(disk, file, bytes)?;

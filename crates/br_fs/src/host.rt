@@ -10,7 +10,7 @@ use crate::file_path::FilePath;
 use crate::kind::{Kind, Metadata};
 use crate::maker::FileMaker;
 use std::alloc::Global;
-use std::fs::{DirBuilder, FileType, OpenOptions};
+use std::fs::{DirBuilder, FileType, OpenFile, OpenOptions};
 use std::io::{ErrorKind, Write};
 use std::marker::Model;
 use std::os::unix::fs::{DirBuilderExt, FileExt, OpenOptionsExt};
@@ -22,6 +22,8 @@ use std::{fs, io};
 pub struct HostDisk<F: Files + Drop> {
     alloc: Global,
     files: F,
+    /// Whether each file and folder that is made is synced.
+    is_syncing: bool,
 }
 
 /// An open file, and the path under which it was opened.
@@ -42,7 +44,27 @@ impl<H: Drop> Model for HostFile<H> {
 impl<F: Files + Drop> HostDisk<F> {
     /// Returns the disk on which this handle opens files.
     pub fn new(alloc: Global, files: F) -> HostDisk<F> {
-        HostDisk { alloc, files }
+        HostDisk {
+            alloc,
+            files,
+            is_syncing: false,
+        }
+    }
+
+    /// Returns the disk on which this handle opens files. It syncs each file that it finishes and
+    /// each folder that it makes, and then their names.
+    pub fn syncing(alloc: Global, files: F) -> HostDisk<F> {
+        HostDisk {
+            alloc,
+            files,
+            is_syncing: true,
+        }
+    }
+
+    /// Makes the names in the folder at the path durable.
+    fn sync_names(&self, folder: &str) -> Result<(), DiskFault> {
+        let folder = to_read().open(&self.files, folder).map_err(fault_of)?;
+        folder.sync_all().map_err(fault_of)
     }
 
     /// Opens the file at the path.
@@ -109,6 +131,15 @@ fn to_make_and_append() -> OpenOptions
     how
 }
 
+/// Returns the folder in which the path is.
+fn folder_of(path: &str) -> &str {
+    match path.rsplit_once('/') {
+        Some(("", _)) => "/",
+        Some((folder, _)) => folder,
+        None => ".",
+    }
+}
+
 fn kind_of(kind: FileType) -> Kind {
     if kind.is_file() {
         Kind::File
@@ -130,6 +161,8 @@ where
     type File = HostFile<F::File>;
 
     ghost told = { λ _. None };
+
+    ghost durable = { λ _. None };
 
     ghost path_of = { λ file. file };
 
@@ -171,6 +204,14 @@ where
     fn write(&mut self, file: &mut HostFile<F::File>, bytes: &[u8]) -> Result<usize, DiskFault> {
         file.file.write(bytes).map_err(fault_of)
     }
+
+    fn sync_folder(&mut self, path: &str) -> Result<(), DiskFault> {
+        self.sync_names(path)
+    }
+
+    fn sync(&mut self, file: &HostFile<F::File>) -> Result<(), DiskFault> {
+        file.file.sync_data().map_err(fault_of)
+    }
 }
 
 impl<F: Files + Drop> FileMaker for HostDisk<F> {
@@ -195,16 +236,31 @@ impl<F: Files + Drop> FileMaker for HostDisk<F> {
     fn make_folder(&mut self, path: &str) -> Result<(), DiskFault> {
         let mut how = DirBuilder::new();
         how.mode(0o700);
-        how.create(&self.files, path).map_err(fault_of)
+        how.create(&self.files, path).map_err(fault_of)?;
+        if !self.is_syncing {
+            return Ok(());
+        }
+        match self.sync_names(folder_of(path)) {
+            Ok(()) => Ok(()),
+            Err(fault) => {
+                // Nothing is left of a folder that is refused.
+                let _removed = fs::remove_dir(&self.files, path);
+                Err(fault)
+            }
+        }
     }
 
     fn make_file(&mut self, path: &str) -> Result<F::File, DiskFault> {
         to_make().open(&self.files, path).map_err(fault_of)
     }
 
-    /// Closes the file, by dropping it.
-    fn finish(&mut self, _path: &str, _file: F::File) -> Result<(), DiskFault> {
-        Ok(())
+    /// Closes the file, by dropping it. A disk that syncs syncs it before.
+    fn finish(&mut self, path: &str, file: F::File) -> Result<(), DiskFault> {
+        if !self.is_syncing {
+            return Ok(());
+        }
+        file.sync_all().map_err(fault_of)?;
+        self.sync_names(folder_of(path))
     }
 
     fn remove(&mut self, path: &str) -> Result<(), DiskFault> {

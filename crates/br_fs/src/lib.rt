@@ -1,9 +1,9 @@
 //! Files and folders, by two traits whose clauses state the effect of each call.
 //!
-//! `Disk` reads files and appends to them. `MemDisk` is a disk over memory, which tells its files,
-//! and `HostDisk` is the system's, as thin as possible. `read_from` and `append` are generic over
-//! the trait: the first reads just the bytes that the file has, the second appends all bytes or the
-//! first of them.
+//! `Disk` reads files, appends to them and syncs them. `MemDisk` is a disk over memory, which tells
+//! its files and what a crash leaves of them, and `HostDisk` is the system's, as thin as possible.
+//! `read_from` and `append` are generic over the trait: the first reads just the bytes that the
+//! file has, the second appends all bytes or the first of them.
 //!
 //! `FileMaker` makes files and folders, whose new files can be written side by side. `MemMaker` is
 //! one over memory, and `HostDisk` that of the system. `enter_folder`, `clear_path` and `put_file`
@@ -14,6 +14,7 @@
 #![tactic(auto)]
 
 mod comparer;
+mod crash_laws;
 mod disk;
 mod fault;
 mod file_appending;
@@ -26,8 +27,10 @@ mod maker;
 mod maker_steps;
 mod mem;
 mod mem_maker;
+mod mem_synced;
 
 pub use comparer::Comparer;
+pub use crash_laws::crashes_leave_fronts;
 pub use disk::Disk;
 pub use fault::DiskFault;
 pub use file_appending::append;

@@ -3,23 +3,27 @@ ghost use Rattle.std.specs.Prelude.{Option, option_map, IfOk, OnOk, OnErr, None,
 ghost use Rattle.std.specs.Option.{option_copied};
 ghost use Rattle.br_model.specs.Volume.{volume_bytes};
 ghost use Rattle.br_fs.specs.Calls.{IsNothing, IsPartAt, IsTaken};
-ghost use Rattle.br_fs.specs.Memory.{Held, IsSeen, IsOtherIn, IsIn, files_of, steady_of, with_appended};
+ghost use Rattle.br_fs.specs.Memory.{Held, IsSeen, IsOtherIn, IsIn, durable_on, files_of, steady_of, with_appended};
 ghost use Rattle.br_fs.specs.Memory.{with_interrupts, with_calls, with_room};
 
 use crate::disk::Disk;
 use crate::fault::DiskFault;
 use crate::file_path::FilePath;
 use crate::kind::{Kind, Metadata};
+use crate::mem_synced::{entries_of, len_at, note_synced};
 use std::alloc::{AllocError, Global};
 use std::marker::Model;
 
 /// A disk over memory, for tests. Its reads and writes may be short or interrupted, its calls may
-/// fail from a given call on, and it may be full.
+/// fail from a given call on, and it may be full. At first nothing on it is durable.
 #[derive(Drop)]
 pub struct MemDisk {
     alloc: Global,
     files: Vec<(FilePath, Vec<u8>)>,
     others: Vec<(FilePath, Kind)>,
+    /// The files whose names are durable, the last sync first, with the numbers of their bytes that
+    /// are durable.
+    synced: Vec<(FilePath, u64)>,
     at_most: usize,
     interrupts: u64,
     calls_left: Option<u64>,
@@ -33,6 +37,7 @@ impl Model for MemDisk {
 
     ghost view = { λ d. record {
       tree = record { files = files_of d.files.items; others = d.others.items };
+      synced = d.synced.items;
       interrupts = d.interrupts;
       calls_left = d.calls_left;
       room = d.room;
@@ -53,6 +58,7 @@ impl MemDisk {
             alloc,
             files,
             others,
+            synced: Vec::new(alloc),
             at_most: usize::MAX,
             interrupts: 0,
             calls_left: None,
@@ -96,6 +102,7 @@ impl MemDisk {
     /// Counts a call. Returns whether it succeeds.
     fn answers(&mut self) -> bool
         ensures tree { self.new.tree ≡ self.old.tree }
+        ensures synced { self.new.synced ≡ self.old.synced }
         ensures interrupts { self.new.interrupts ≡ self.old.interrupts }
         ensures room { self.new.room ≡ self.old.room }
         ensures always { self.old.calls_left ≡ None → (self.new.calls_left ≡ None) × (result ≡ true) }
@@ -121,7 +128,7 @@ fn file_of<'a>(files: &'a [(FilePath, Vec<u8>)], path: &[u8]) -> Option<&'a (Fil
 }
 
 /// Returns the bytes of the first file at the path.
-fn bytes_of<'a>(files: &'a [(FilePath, Vec<u8>)], path: &[u8]) -> Option<&'a Vec<u8>>
+pub(crate) fn bytes_of<'a>(files: &'a [(FilePath, Vec<u8>)], path: &[u8]) -> Option<&'a Vec<u8>>
     ensures { option_map (λ b. b.now.items) result ≡ volume_bytes (files_of files.now) path.now }
 {
     match file_of(files, path) {
@@ -232,10 +239,13 @@ fn copy_part(bytes: &[u8], buf: &mut [u8], at: u64, at_most: usize) -> usize
 
 impl Disk for MemDisk {
     ghost use Rattle.std.specs.Prelude.{Some};
+    ghost use Rattle.br_fs.specs.Memory.{durable_on};
 
     type File = FilePath;
 
     ghost told = { λ d. Some d.tree };
+
+    ghost durable = { λ d. Some (durable_on d) };
 
     ghost path_of = { λ file. file };
 
@@ -266,6 +276,7 @@ impl Disk for MemDisk {
         Ok(FilePath::new(self.alloc, path.as_bytes())?)
     }
 
+    #[tactic(auto, using(crate::proofs::DurableLaws::lasts_same))]
     fn create(&mut self, path: &str) -> Result<FilePath, DiskFault> {
         if !self.answers() {
             return Err(DiskFault::Failed);
@@ -297,6 +308,7 @@ impl Disk for MemDisk {
         Ok(copy_part(bytes, buf, at, self.at_most))
     }
 
+    #[tactic(auto, using(crate::proofs::DurableLaws::lasts_same))]
     fn write(&mut self, file: &mut FilePath, bytes: &[u8]) -> Result<usize, DiskFault> {
         if !self.answers() {
             return Err(DiskFault::Failed);
@@ -319,5 +331,25 @@ impl Disk for MemDisk {
         };
         append_to(self.alloc, &mut self.files, file.bytes(), &bytes[..n])?;
         Ok(n)
+    }
+
+    #[tactic(auto, using(crate::proofs::DurableLaws::entries_last, crate::proofs::DurableLaws::entries_named, crate::proofs::DurableLaws::lasts_same))]
+    fn sync_folder(&mut self, path: &str) -> Result<(), DiskFault> {
+        if !self.answers() {
+            return Err(DiskFault::Failed);
+        }
+        let mut entries = entries_of(self.alloc, &self.files, path.as_bytes())?;
+        self.synced.append(&mut entries)?;
+        Ok(())
+    }
+
+    #[tactic(auto, using(crate::proofs::DurableLaws::synced_last, crate::proofs::DurableLaws::synced_durable, crate::proofs::DurableLaws::lasts_same))]
+    fn sync(&mut self, file: &FilePath) -> Result<(), DiskFault> {
+        if !self.answers() {
+            return Err(DiskFault::Failed);
+        }
+        let len = len_at(&self.files, file.bytes());
+        note_synced(self.alloc, &mut self.synced, file.bytes(), len)?;
+        Ok(())
     }
 }

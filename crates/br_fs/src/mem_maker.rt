@@ -141,7 +141,7 @@ fn begins_with_slash(bytes: &[u8]) -> bool
 
 /// Returns whether the path begins with the folder's and a slash.
 #[tactic(auto, using(crate::proofs::EmptyLaws::short_is_not_below))]
-fn is_below(folder: &[u8], path: &[u8]) -> bool
+pub(crate) fn is_below(folder: &[u8], path: &[u8]) -> bool
     ensures { result ≡ is_below folder.now path.now }
 {
     if path.len() < folder.len() {
