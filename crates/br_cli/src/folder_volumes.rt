@@ -51,6 +51,8 @@ impl VolumeStore for FolderVolumes<'_> {
 
     ghost holds = { λ _. None };
 
+    ghost durable = { λ _. None };
+
     ghost failures = { λ v. v.store.failures };
 
     fn append(&mut self, vol: &VolName, bytes: &[u8]) -> Result<(), VolumeFault> {
@@ -59,6 +61,10 @@ impl VolumeStore for FolderVolumes<'_> {
 
     fn length(&mut self, vol: &VolName) -> Result<u64, VolumeFault> {
         self.store.length(vol)
+    }
+
+    fn sync(&mut self, vol: &VolName) -> Result<(), VolumeFault> {
+        self.store.sync(vol)
     }
 }
 

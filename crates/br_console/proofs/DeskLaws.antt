@@ -4,6 +4,7 @@ use Rattle.std.specs.Prelude.{IfErr, IfOk, MatchOption}
 use Rattle.std.specs.List.{AllByRecursion}
 use Rattle.br_model.specs.Volume.{Volume}
 use Rattle.br_model.specs.Job.{JobRows}
+use Rattle.br_volume.specs.Store.{Failures}
 use Rattle.br_history.specs.Saving.{ToCommit}
 use Rattle.br_keeper.specs.Beginnings.{Beginning}
 use Rattle.br_keeper.specs.Publishing.{Publishing}
@@ -83,7 +84,7 @@ module _ {C W : Type 0} (inserts refuses : JobRows → C → C → Type 0) where
   ends_clean E F shelf place old new session before after u v (Ok (Some c)) h = h
   ends_clean E F shelf place old new session before after u v (Err n) h = h
 
-  module _ (holds : W → Option (List Volume)) (failures : W → ℕ) where
+  module _ (holds : W → Option (List Volume)) (failures : W → Failures) where
     -- a commit is one deed
     pub committed_few : (c : ToCommit) (old new : Keeping C W) (session : Option Known) (r : Result ℕ KeeperFault)
         → CommitsAt inserts refuses (shelf_of holds failures) c old new session r → DoesFew inserts refuses holds failures session old new

@@ -5,6 +5,7 @@ use Rattle.br_model.specs.Answer.{IsRefusal}
 use Rattle.br_model.specs.Job.{JobRows}
 use Rattle.br_model.specs.Volume.{Volume}
 use Rattle.br_history.specs.Saving.{ToCommit}
+use Rattle.br_volume.specs.Store.{Failures}
 use Rattle.br_keeper.specs.Sessions.{Known}
 use Rattle.br_keeper.specs.Keeping.{Keeping, shelf_of}
 use Rattle.br_keeper.specs.Writing.{Shelf}
@@ -50,19 +51,19 @@ TakesIn inserts refuses shelf place old new session before after result line dra
 -- ---- as a script states it, over what its catalogue, its volumes and its writer show
 
 -- a job is committed, and its line is written
-abbrev pub CommitsJob : {C V W E : Type 0} → (JobRows → C → C → Type 0) → (JobRows → C → C → Type 0) → (V → Option (List Volume)) → (V → ℕ)
+abbrev pub CommitsJob : {C V W E : Type 0} → (JobRows → C → C → Type 0) → (JobRows → C → C → Type 0) → (V → Option (List Volume)) → (V → Failures)
     → (W → Option (List ℕ)) → Script C V → Script C V → W → W → ToCommit → Result (Unit {0}) E → Type 0
 CommitsJob inserts refuses holds failures contents old new before after c result =
     AnswersCommit inserts refuses (shelf_of holds failures) c old.desk.keeper new.desk.keeper new.desk.session (contents before) (contents after) result
 
 -- the result for a job that ends
-abbrev pub EndsDraft : {C V W E : Type 0} → (JobRows → C → C → Type 0) → (JobRows → C → C → Type 0) → (V → Option (List Volume)) → (V → ℕ)
+abbrev pub EndsDraft : {C V W E : Type 0} → (JobRows → C → C → Type 0) → (JobRows → C → C → Type 0) → (V → Option (List Volume)) → (V → Failures)
     → (W → Option (List ℕ)) → Script C V → Script C V → W → W → ℕ → Result (Unit {0}) E → Drafting → Type 0
 EndsDraft inserts refuses holds failures contents old new before after place result draft =
     EndsJob inserts refuses (shelf_of holds failures) place old.desk.keeper new.desk.keeper new.desk.session (contents before) (contents after) result (ended draft)
 
 -- a job takes a line, and goes on or ends
-abbrev pub DraftTakes : {C V W E : Type 0} → (JobRows → C → C → Type 0) → (JobRows → C → C → Type 0) → (V → Option (List Volume)) → (V → ℕ)
+abbrev pub DraftTakes : {C V W E : Type 0} → (JobRows → C → C → Type 0) → (JobRows → C → C → Type 0) → (V → Option (List Volume)) → (V → Failures)
     → (W → Option (List ℕ)) → Script C V → Script C V → W → W → ℕ → Result (Unit {0}) E → List ℕ → Drafting → Type 0
 DraftTakes inserts refuses holds failures contents old new before after place result line draft =
     TakesIn inserts refuses (shelf_of holds failures) place old.desk.keeper new.desk.keeper new.desk.session (contents before) (contents after) result

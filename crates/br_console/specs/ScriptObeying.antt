@@ -11,6 +11,7 @@ use Rattle.br_bsr.specs.Fault as bootstrap
 use Rattle.br_bsr.specs.declared.fault.BsrFault.{BsrFault}
 use Rattle.br_engine.specs.declared.fault.ExtractFault.TheVariants as of_extract
 use Rattle.br_types.specs.LineFault.{line_cause}
+use Rattle.br_volume.specs.Store.{Failures}
 use Rattle.br_types.specs.declared.line_fault.LineFault.{LineFault}
 use Rattle.br_types.specs.declared.line_fault.LineFault.TheVariants.{Memory, BadScript}
 use Rattle.br_console.specs.ScriptAnswering.{refusal_at}
@@ -41,13 +42,13 @@ KeepsBootstrap before after was now result kept keeps =
     × KeepsRead before after was now result keeps read))
 
 -- the bytes are appended to the volume, or a first part of them and the refusal is written
-abbrev pub AppendsBy : {C V E : Type 0} → (V → Option (List Volume)) → (V → ℕ) → Script C V → Script C V → Option (List ℕ) → Option (List ℕ)
+abbrev pub AppendsBy : {C V E : Type 0} → (V → Option (List Volume)) → (V → Failures) → Script C V → Script C V → Option (List ℕ) → Option (List ℕ)
     → List ℕ → List ℕ → Result (Unit {0}) E → Type 0
 AppendsBy holds failures old new before after volume bytes result =
     AnswersBytes holds failures volume bytes old.desk.keeper new.desk.keeper before after result
 
 -- the effect of a line outside of a job with this request
-abbrev pub Obeys : {C V : Type 0} → (V → Option (List Volume)) → (V → ℕ) → Script C V → Script C V → Option (List ℕ) → Option (List ℕ) → ℕ
+abbrev pub Obeys : {C V : Type 0} → (V → Option (List Volume)) → (V → Failures) → Script C V → Script C V → Option (List ℕ) → Option (List ℕ) → ℕ
     → Result (Unit {0}) ScriptFault → Said → Type 0
 Obeys holds failures old new before after place result (Drives n) = (new ≡ record old { drives = n }) × Keeps before after
 Obeys holds failures old new before after place result (Bytes name bytes) =
@@ -63,14 +64,14 @@ number_of Memory = 1
 number_of BadScript = 90
 
 -- a line outside of a job is carried out, or it is refused
-abbrev pub TakesOutside : {C V : Type 0} → (V → Option (List Volume)) → (V → ℕ) → Script C V → Script C V → Option (List ℕ) → Option (List ℕ) → ℕ
+abbrev pub TakesOutside : {C V : Type 0} → (V → Option (List Volume)) → (V → Failures) → Script C V → Script C V → Option (List ℕ) → Option (List ℕ) → ℕ
     → Result (Unit {0}) ScriptFault → List ℕ → Type 0
 TakesOutside holds failures old new before after place result line =
     ((why : LineFault) × IsRefusal (line_cause why) (line_said line) × RefusesBy before after new.end result (refusal_at (number_of why) place))
     ⊎ ((asked : Said) × (line_said line ≡ Ok asked) × Obeys holds failures old new before after place result asked)
 
 -- a line is taken by the job that it is in, else by the script
-abbrev pub CarriesOut : {C V W : Type 0} → (JobRows → C → C → Type 0) → (JobRows → C → C → Type 0) → (V → Option (List Volume)) → (V → ℕ)
+abbrev pub CarriesOut : {C V W : Type 0} → (JobRows → C → C → Type 0) → (JobRows → C → C → Type 0) → (V → Option (List Volume)) → (V → Failures)
     → (W → Option (List ℕ)) → Script C V → Script C V → W → W → ℕ → Result (Unit {0}) ScriptFault → List ℕ → Type 0
 CarriesOut inserts refuses holds failures contents old new before after place result line =
     MatchOption old.draft (TakesOutside holds failures old new (contents before) (contents after) place result line)

@@ -7,7 +7,7 @@ use Rattle.br_model.specs.Volume.{Volume}
 use Rattle.br_model.specs.Stored.{Holds}
 use Rattle.br_model.specs.Job.{JobRows, Job}
 use Rattle.br_history.specs.Saving.{ToCommit}
-use Rattle.br_volume.specs.Store.{AppendsInPartTo, AppendsTo}
+use Rattle.br_volume.specs.Store.{AppendsInPartTo, AppendsTo, Failures}
 use Rattle.br_volume.specs.declared.fault.VolumeFault.{VolumeFault}
 use Rattle.br_keeper.specs.Beginnings.{Beginning}
 use Rattle.br_keeper.specs.declared.vouched_lengths.Vouch.{Vouch}
@@ -16,12 +16,12 @@ use Rattle.br_keeper.specs.declared.fault.KeeperFault.TheVariants.{Memory, Dupli
 use Rattle.br_keeper.specs.Publishing.{Publishing, all_published, with_added}
 use Rattle.br_keeper.specs.Writing.{IsKept, Shelf}
 use Rattle.br_keeper.specs.Keeping.{Keeping, RepublishesKept, jobs_of, shelf_of}
-use Rattle.br_keeper.specs.Committing.{Commits}
-use Rattle.br_keeper.specs.Outcomes.{Backing}
+use Rattle.br_keeper.specs.Committing.{Commits, MeetsFailedStore}
+use Rattle.br_keeper.specs.Outcomes.{Backing, Lasting}
 use Rattle.br_keeper.specs.Holding.{AreStanding, HoldsJob, Stands, StandsIfHeld, StandsOn, StandsWith, job_with}
 use Rattle.br_keeper.specs.Channel.{AreStored, CommitsStand, StoresFirst}
 use Rattle.br_keeper.proofs.ReachingLaws.{volumes_reach}
-use Rattle.br_keeper.proofs.StandingLaws.{appended_stands, failed_stands, part_stands, standing_by, written_to_stands}
+use Rattle.br_keeper.proofs.StandingLaws.{appended_stands, failed_stands, part_stands, standing_by, unsynced_stands, written_to_stands}
 
 -- ---- a shelf that is kept
 
@@ -56,6 +56,15 @@ module _ {C W : Type 0} (inserts refuses : JobRows → C → C → Type 0) (shel
   by_rows : (k : Keeping C W) (rows : List JobRows) (jobs : List Job) → jobs_of k ≡ rows → IfSome (shelf k).volumes (AreStanding (shelf k).vouches rows jobs) → Stands shelf jobs k
   by_rows k rows jobs e is = subst (λ (rs : List JobRows). IfSome (shelf k).volumes (AreStanding (shelf k).vouches rs jobs)) (sym e) is
 
+  -- the store of volumes failed
+  store_failed : (old new : Keeping C W) (jobs : List Job) → MeetsFailedStore (jobs_of old) c (shelf old) (shelf new) → new.list ≡ all_published old.list
+      → Stands shelf jobs old → Stands shelf jobs new
+  store_failed old new jobs (inl m) e is = refused_stands old new jobs m.refused.kept e is
+  store_failed old new jobs (inr (inl m)) e is =
+      by_rows new (jobs_of old) jobs (with_none old new e) (failed_stands (jobs_of old) c (shelf old) (shelf new) jobs m is)
+  store_failed old new jobs (inr (inr m)) e is =
+      by_rows new (jobs_of old) jobs (with_none old new e) (unsynced_stands (jobs_of old) c (shelf old) (shelf new) jobs m is)
+
   pub commits_hold : (old new : Keeping C W) (r : Result Beginning KeeperFault) → Commits inserts refuses shelf c old new r → HoldsJob on c old new r
   commits_hold old new (Ok receipt) w jobs is =
       let r = written_to_stands inserts (jobs_of old) c old.catalogue new.catalogue (shelf old) (shelf new) w.0 jobs w.1 is in
@@ -67,10 +76,7 @@ module _ {C W : Type 0} (inserts refuses : JobRows → C → C → Type 0) (shel
       let r = written_to_stands refuses (jobs_of old) c old.catalogue new.catalogue (shelf old) (shelf new) w.0.0 jobs w.0.1 is in
       (w.0.0, w.0.1.catalogue, r.0, by_rows new (jobs_of old) jobs (with_none old new w.1) r.1)
   commits_hold old new (Err VolumeFails) w jobs is =
-      elim w.0.1 [
-        | inl m ↦ refused_stands old new jobs m.refused.kept w.1 is
-        | inr m ↦ by_rows new (jobs_of old) jobs (with_none old new w.1) (failed_stands (jobs_of old) c (shelf old) (shelf new) jobs m is)
-      ]
+      store_failed old new jobs w.0.1 w.1 is
   commits_hold old new (Err Memory) w jobs is =
       elim w.1 [
         | inl e ↦ kept_stands (shelf old) (shelf new) (jobs_of old) (jobs_of new) jobs w.0.1 (ap (λ (p : Publishing). p.opening ++ p.added) e) is
@@ -84,7 +90,7 @@ module _ {C W : Type 0} (inserts refuses : JobRows → C → C → Type 0) (shel
 
 -- ---- the other calls
 
-module _ {C W : Type 0} (holds : W → Option (List Volume)) (failures : W → ℕ) where
+module _ {C W : Type 0} (holds : W → Option (List Volume)) (failures : W → Failures) where
   -- a new keeper, if its volumes hold the jobs that it has loaded
   pub new_stands : (k : Keeping C W) → k.vouches ≡ [] → StandsIfHeld (shelf_of holds failures) k
   new_stands k none jobs are held = go (holds k.volumes) held
@@ -117,8 +123,11 @@ module _ {C W : Type 0} (holds : W → Option (List Volume)) (failures : W → �
 
 -- ---- commits
 
-module _ {C W : Type 0} (b : Backing C W) where
-  pub commits_stand_lem : CommitsStand b
+module _ {C W : Type 0} (on : Lasting C W) where
+  abbrev b : Backing C W
+  b = on.backing
+
+  pub commits_stand_lem : CommitsStand on
   commits_stand_lem [] old new jobs are is =
       ([], refl, subst (λ (k : Keeping C W). Stands b.shelf (jobs ++ []) k) (sym are) (subst (λ (js : List Job). Stands b.shelf js old) (sym (append-nil jobs)) is))
   commits_stand_lem (step ∷ steps) old new jobs are is =

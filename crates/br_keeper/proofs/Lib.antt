@@ -12,3 +12,4 @@ pub mod LeadingLaws
 pub mod ShowingLaws
 mod ServedLaws
 mod ListingLaws
+pub mod OutlastingLaws

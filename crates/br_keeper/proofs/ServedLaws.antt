@@ -11,6 +11,7 @@ use Rattle.br_keeper.specs.declared.fault.KeeperFault.TheVariants.{Memory, Dupli
 use Rattle.br_keeper.specs.Writing.{Shelf}
 use Rattle.br_keeper.specs.Keeping.{Keeping}
 use Rattle.br_keeper.specs.Committing.{Commits}
+use Rattle.br_keeper.specs.Outcomes.{Lasting}
 use Rattle.br_keeper.specs.Channel.{HasServed, IsReply, Step, IsCommit, AreCommits, IsLeftByCommits}
 use Rattle.br_history.proofs.PreparingLaws.{row_stays}
 
@@ -49,20 +50,20 @@ module _ {C W : Type 0} (inserts refuses : JobRows → C → C → Type 0) (shel
   served old new (Err Store) is = stays old.list new.list is.1
   served old new (Err BadCatalogue) is = stays old.list new.list is.1
 
-module _ {C W : Type 0} (inserts refuses : JobRows → C → C → Type 0) (shelf : Keeping C W → Shelf) where
+module _ {C W : Type 0} (on : Lasting C W) where
   -- one more commit after the others
-  pub one_more : (steps : List (Step C W)) (a b : Keeping C W) (step : Step C W) → AreCommits inserts refuses shelf steps a b
-      → IsCommit inserts refuses shelf step.job b step.after step.result → AreCommits inserts refuses shelf (steps ++ step ∷ []) a step.after
+  pub one_more : (steps : List (Step C W)) (a b : Keeping C W) (step : Step C W) → AreCommits on steps a b
+      → IsCommit on step.job b step.after step.result → AreCommits on (steps ++ step ∷ []) a step.after
   one_more [] a b step h is = rw (sym h) (is, refl)
   one_more (s ∷ steps) a b step h is = (h.0, one_more steps s.after b step h.1 is)
 
-  pub goes_on : (a old new : Keeping C W) (c : ToCommit) (r : Result Beginning KeeperFault) → IsLeftByCommits inserts refuses shelf a old
-      → IsCommit inserts refuses shelf c old new r → IsLeftByCommits inserts refuses shelf a new
+  pub goes_on : (a old new : Keeping C W) (c : ToCommit) (r : Result Beginning KeeperFault) → IsLeftByCommits on a old
+      → IsCommit on c old new r → IsLeftByCommits on a new
   goes_on a old new c r h is =
       let step : Step C W = record { job = c; result = r; after = new } in (h.0 ++ step ∷ [], one_more h.0 a old step h.1 is)
 
   -- commits add jobs
-  pub all_served : (steps : List (Step C W)) (a b : Keeping C W) → AreCommits inserts refuses shelf steps a b → HasServed a.list b.list
+  pub all_served : (steps : List (Step C W)) (a b : Keeping C W) → AreCommits on steps a b → HasServed a.list b.list
   all_served [] a b h = rw h (served_none a.list)
   all_served (s ∷ steps) a b h =
-      served_on a.list s.after.list b.list (served inserts refuses shelf s.job a s.after s.result h.0.0) (all_served steps s.after b h.1)
+      served_on a.list s.after.list b.list (served on.backing.inserts on.backing.refuses on.backing.shelf s.job a s.after s.result h.0.0) (all_served steps s.after b h.1)

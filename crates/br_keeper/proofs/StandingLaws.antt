@@ -26,7 +26,7 @@ use Rattle.br_volume.proofs.ExtendLaws.{extends_itself}
 use Rattle.br_keeper.specs.declared.vouched_lengths.Vouch.{Vouch}
 use Rattle.br_keeper.specs.Vouching.{changed, end_of_jobs, entry_of, new_entries, retired, starts_of, vouched}
 use Rattle.br_keeper.specs.Writing.{AppendInTurn, IsVouched, Shelf, after_blocks}
-use Rattle.br_keeper.specs.Committing.{IsWrittenTo, MeetsFailure}
+use Rattle.br_keeper.specs.Committing.{IsWrittenTo, MeetsFailedSync, MeetsFailure}
 use Rattle.br_keeper.specs.Holding.{AreBlocks, AreStanding, job_with, rows_in}
 use Rattle.br_keeper.proofs.EntryLaws.{entered, entry_beside, entry_changed, entry_grows, entry_stays, is_of, no_bytes, not_entered, told, vouched_among}
 use Rattle.br_keeper.proofs.ReachingLaws.{Reaches, volumes_reach}
@@ -51,7 +51,7 @@ abbrev blocks_in : Visit → List (List ℕ × List ℕ)
 blocks_in v = map (λ (block : List ℕ). (v.volume, block)) v.blocks
 
 -- each place is one of the places
-each_among : (all ps : List Place) → ((name : List ℕ) → list_any (is_of name) ps ≡ true → list_any (is_of name) all ≡ true)
+pub each_among : (all ps : List Place) → ((name : List ℕ) → list_any (is_of name) ps ≡ true → list_any (is_of name) all ≡ true)
     → AllByRecursion (λ (p : Place). list_any (is_of p.volume) all ≡ true) ps
 each_among all [] within = tt
 each_among all (p ∷ ps) within = (
@@ -67,7 +67,7 @@ pub record AreFor (places : List Place) (blocks : List (List ℕ × List ℕ)) :
   pub among : AllByRecursion (λ (b : List ℕ × List ℕ). list_any (is_of b.0) places ≡ true) blocks
   pub whole : AllByRecursion (λ (b : List ℕ × List ℕ). IsWholeBlock b.1) blocks
 
-session_blocks : (c : ToCommit) (starts : List (List ℕ × ℕ)) (rows : JobRows) (written : Written) → IsSession c starts rows written → AreFor c.places written.blocks
+pub session_blocks : (c : ToCommit) (starts : List (List ℕ × ℕ)) (rows : JobRows) (written : Written) → IsSession c starts rows written → AreFor c.places written.blocks
 session_blocks c starts rows written is =
     let w = is.is_written.is_written in
     let vs = visits c.places w.blocks in
@@ -93,7 +93,7 @@ session_blocks c starts rows written is =
     }
 
 -- blocks for volumes of the places are not for another volume
-not_for : (places : List Place) (blocks : List (List ℕ × List ℕ)) (name : List ℕ) → list_any (is_of name) places ≡ false
+pub not_for : (places : List Place) (blocks : List (List ℕ × List ℕ)) (name : List ℕ) → list_any (is_of name) places ≡ false
     → AllByRecursion (λ (b : List ℕ × List ℕ). list_any (is_of b.0) places ≡ true) blocks → AllByRecursion (λ (b : List ℕ × List ℕ). bytes_eq b.0 name ≡ false) blocks
 not_for places blocks name none among =
     all_weaker (λ (b : List ℕ × List ℕ). list_any (is_of b.0) places ≡ true) (λ (b : List ℕ × List ℕ). bytes_eq b.0 name ≡ false)
@@ -157,6 +157,14 @@ stood_longer entry end old more is =
           subst (λ (bytes : List ℕ). AreBlocks bytes) equal (is.1 serves (same ∙ ap length (sym equal))),
     )
 
+-- one that is retired now
+stood_then_retired : (before after : Option Vouch) (end : ℕ) (bytes : List ℕ) → Stood before end bytes → after ≡ option_map retired before → Stood after end bytes
+stood_then_retired before after end bytes is e = subst (λ (o : Option Vouch). Stood o end bytes) (sym e) (go before is)
+  where
+    go : (o : Option Vouch) → Stood o end bytes → Stood (option_map retired o) end bytes
+    go None is = is
+    go (Some v) is = (is.0, λ serves same. absurd cc)
+
 -- ---- all volumes
 
 stood : (vs : List Vouch) (rows : List JobRows) (jobs : List Job) (volumes : List Volume) → AreStanding vs rows jobs volumes → (name : List ℕ)
@@ -170,7 +178,7 @@ standing_by vs rows jobs volumes are hold each =
     (record { rows_are = refl; hold = hold; long = λ name. (each name).0; whole = λ name. (each name).1 })
 
 -- jobs that hold do so while volumes grow
-held_on : (earlier later : List Volume) (jobs : List Job) → Extends later earlier → AllByRecursion (Holds earlier) jobs → AllByRecursion (Holds later) jobs
+pub held_on : (earlier later : List Volume) (jobs : List Job) → Extends later earlier → AllByRecursion (Holds earlier) jobs → AllByRecursion (Holds later) jobs
 held_on earlier later jobs extends hold = all_weaker (Holds earlier) (Holds later) (λ j h. job_stays earlier later j extends h) jobs hold
 
 -- ---- bytes for which no job vouches
@@ -359,3 +367,37 @@ failed_stands history c old new jobs m is =
     let are = session_blocks c (starts_of old.vouches history c.places) m.rows m.written m.ready.session in
     subst (λ (vs : List Vouch). IfSome new.volumes (AreStanding vs history jobs)) (sym cut.vouches_are)
     (cut_off_stands c history old.vouches jobs cut.done cut.rest cut.block m.written.blocks old.volumes cut.middle new.volumes are cut.split m.cut_off.serve cut.appended cut.in_part is)
+
+-- a volume that is retired
+retired_stands : (vs : List Vouch) (rows : List JobRows) (jobs : List Job) (volumes : List Volume) (volume : List ℕ) → AreStanding vs rows jobs volumes
+    → AreStanding (changed retired volume vs) rows jobs volumes
+retired_stands vs rows jobs volumes volume is =
+    standing_by (changed retired volume vs) rows jobs volumes is.rows_are is.hold
+    (λ name. subst (λ (end : ℕ). Stood (entry_of (changed retired volume vs) name) end (bytes_of_volume volumes name)) (ap (end_of_jobs name) (sym is.rows_are))
+    (go name (bytes_eq volume name) refl))
+  where
+    go : (name : List ℕ) (t : Bool) → bytes_eq volume name ≡ t → Stood (entry_of (changed retired volume vs) name) (end_of_jobs name rows) (bytes_of_volume volumes name)
+    go name true e =
+        let entry : entry_of (changed retired volume vs) name ≡ option_map retired (entry_of vs name) =
+        ap (λ (n : List ℕ). entry_of (changed retired n vs) name) ((bytes_eq-Decides volume name).0 e) ∙ entry_changed retired (λ v. refl) vs name in
+        stood_then_retired (entry_of vs name) (entry_of (changed retired volume vs) name) (end_of_jobs name rows) (bytes_of_volume volumes name) (stood vs rows jobs volumes is name) entry
+    go name false e =
+        subst (λ (o : Option Vouch). Stood o (end_of_jobs name rows) (bytes_of_volume volumes name)) (sym (entry_beside retired (λ v. refl) vs volume name e))
+        (stood vs rows jobs volumes is name)
+
+retired_stand : (vs : List Vouch) (rows : List JobRows) (jobs : List Job) (told : Option (List Volume)) (volume : List ℕ) → IfSome told (AreStanding vs rows jobs)
+    → IfSome told (AreStanding (changed retired volume vs) rows jobs)
+retired_stand vs rows jobs None volume is = tt
+retired_stand vs rows jobs (Some volumes) volume is = retired_stands vs rows jobs volumes volume is
+
+-- a sync failed
+pub unsynced_stands : (history : List JobRows) (c : ToCommit) (old new : Shelf) (jobs : List Job) → MeetsFailedSync history c old new
+    → IfSome old.volumes (AreStanding old.vouches history jobs) → IfSome new.volumes (AreStanding new.vouches history jobs)
+unsynced_stands history c old new jobs m is =
+    let middle = m.unsynced.middle in
+    let last = m.unsynced.unsynced in
+    let r = written_stands c history old.vouches jobs m.rows m.written old.volumes middle.volumes m.ready.session m.unsynced.serve m.unsynced.written.appended is in
+    let all = after_blocks m.written.blocks (old.vouches ++ new_entries old.vouches (starts_of old.vouches history c.places)) in
+    subst (λ (told : Option (List Volume)). IfSome told (AreStanding new.vouches history jobs)) (sym last.volumes_are)
+    (subst (λ (vs : List Vouch). IfSome middle.volumes (AreStanding vs history jobs)) (sym (last.vouches_are ∙ ap (changed retired last.start.0) m.unsynced.written.vouches_are))
+    (retired_stand all history jobs middle.volumes last.start.0 r.1))

@@ -1,17 +1,17 @@
 -- Blocks that are appended one after another, and the volumes that are tested before.
-use Rattle.std.proofs.Common.{◌≡◌, ℕ, ◌+◌, ◌<◌, ◌≤◌, ◌⊎◌, true, zero, suc, List, [], ◌∷◌, ◌++◌, length, take, drop, get_or, Option, Some, None, Result, Ok, Err, refl, sym, ap, subst, ◌∙◌, inl, inr, arith}
+use Rattle.std.proofs.Common.{◌≡◌, ℕ, ◌+◌, ◌<◌, ◌≤◌, ◌⊎◌, true, zero, suc, List, [], ◌∷◌, ◌++◌, length, take, drop, get_or, Option, Some, None, Result, Ok, Err, refl, sym, ap, subst, ◌∙◌, inl, inr, arith, append_assoc}
 use Rattle.std.proofs.lemmas.List.{take_more, map-append}
 use Rattle.std.proofs.lemmas.List.Sums.{fold-append}
 use Rattle.std.specs.Global.{Vec}
 use Rattle.std.specs.List.{AllByRecursion}
 use Rattle.br_model.specs.Volume.{Volume}
 use Rattle.br_model.proofs.ListLaws.{all_append}
-use Rattle.br_volume.specs.Store.{AppendsTo, AppendsInPartTo}
+use Rattle.br_volume.specs.Store.{AppendsTo, AppendsInPartTo, Failures, FailsOn, IsDurableIn, Lasts}
 use Rattle.br_keeper.specs.declared.vouched_lengths.Vouch.{Vouch}
 use Rattle.br_keeper.specs.declared.fault.KeeperFault.{KeeperFault}
 use Rattle.br_history.specs.Preparing.{seen}
 use Rattle.br_keeper.specs.Vouching.{changed, is_retired, longer, new_entries, retired}
-use Rattle.br_keeper.specs.Writing.{Shelf, AppendInTurn, AppendsAll, AreWritten, ChecksVolume, ChecksVolumes, HasOtherLength, IsCutOff, IsKept, IsVouched, WritesBlocks, after_blocks, with_entries}
+use Rattle.br_keeper.specs.Writing.{Shelf, AppendInTurn, AppendsAll, AreWritten, ChecksVolume, ChecksVolumes, HasOtherLength, IsCutOff, IsKept, IsUnsynced, IsVouched, SyncsAll, WritesBlocks, after_blocks, with_entries}
 use Rattle.br_volume.proofs.AppendLaws.{in_turn_more}
 
 -- ---- lists up to a place
@@ -62,7 +62,7 @@ written_none s = record { appended = turn_none s.volumes; vouches_are = refl; co
 
 -- one more was
 written_more : (blocks : List (List ℕ × List ℕ)) (block : List ℕ × List ℕ) (old middle new : Shelf) → AreWritten blocks old middle
-    → AppendsTo block.0 block.1 middle.volumes new.volumes → new.vouches ≡ changed (longer (length block.1)) block.0 middle.vouches → middle.failures ≤ new.failures
+    → AppendsTo block.0 block.1 middle.volumes new.volumes → new.vouches ≡ changed (longer (length block.1)) block.0 middle.vouches → middle.failures.number ≤ new.failures.number
     → AreWritten (blocks ++ block ∷ []) old new
 written_more blocks block old middle new is one vouches counted = record {
   appended = turn_more blocks block old.volumes middle.volumes new.volumes is.appended one;
@@ -73,7 +73,7 @@ written_more blocks block old middle new is one vouches counted = record {
 pub written_next : (blocks : List (List ℕ × Vec ℕ)) (i : ℕ) (block : List ℕ × Vec ℕ) (old middle new : Shelf) → i < length blocks → block ≡ get_or blocks i block
     → AreWritten (seen (take i blocks)) old middle
     → AppendsTo block.0 block.1.items middle.volumes new.volumes → new.vouches ≡ changed (longer (length block.1.items)) block.0 middle.vouches
-    → middle.failures ≤ new.failures → AreWritten (seen (take (i + 1) blocks)) old new
+    → middle.failures.number ≤ new.failures.number → AreWritten (seen (take (i + 1) blocks)) old new
 written_next blocks i block old middle new lt is before one vouches counted =
     subst (λ (bs : List (List ℕ × List ℕ)). AreWritten bs old new) (sym (seen_next blocks i block lt is))
     (written_more (seen (take i blocks)) (block.0, block.1.items) old middle new before one vouches counted)
@@ -82,7 +82,7 @@ written_next blocks i block old middle new lt is before one vouches counted =
 pub cut_off : (blocks : List (List ℕ × Vec ℕ)) (i : ℕ) (block : List ℕ × Vec ℕ) (old middle new : Shelf) → i < length blocks → block ≡ get_or blocks i block
     → AreWritten (seen (take i blocks)) old middle
     → AppendsInPartTo block.0 block.1.items middle.volumes new.volumes → new.vouches ≡ changed retired block.0 middle.vouches
-    → middle.failures < new.failures → IsCutOff (seen blocks) old new
+    → FailsOn block.0 middle.failures new.failures → IsCutOff (seen blocks) old new
 cut_off blocks i block old middle new lt is before part vouches failed = record {
   done = seen (take i blocks);
   block = (block.0, block.1.items);
@@ -94,12 +94,12 @@ cut_off blocks i block old middle new lt is before part vouches failed = record 
   appended = before.appended;
   in_part = part;
   vouches_are = vouches ∙ ap (changed retired block.0) before.vouches_are;
-  failed = omega (arith, before.counted, failed);
+  failed = (omega (arith, before.counted, failed.0), failed.1);
 }
 
 -- ---- from an earlier count of failures on
 
-pub written_since : (blocks : List (List ℕ × List ℕ)) (old middle new : Shelf) → middle.volumes ≡ old.volumes → middle.vouches ≡ old.vouches → old.failures ≤ middle.failures
+pub written_since : (blocks : List (List ℕ × List ℕ)) (old middle new : Shelf) → middle.volumes ≡ old.volumes → middle.vouches ≡ old.vouches → old.failures.number ≤ middle.failures.number
     → AreWritten blocks middle new → AreWritten blocks old new
 written_since blocks old middle new volumes vouches counted is = record {
   appended = subst (λ (vs : Option (List Volume)). AppendInTurn blocks vs new.volumes) volumes is.appended;
@@ -107,7 +107,7 @@ written_since blocks old middle new volumes vouches counted is = record {
   counted = omega (arith, counted, is.counted);
 }
 
-pub cut_off_since : (blocks : List (List ℕ × List ℕ)) (old middle new : Shelf) → middle.volumes ≡ old.volumes → middle.vouches ≡ old.vouches → old.failures ≤ middle.failures
+pub cut_off_since : (blocks : List (List ℕ × List ℕ)) (old middle new : Shelf) → middle.volumes ≡ old.volumes → middle.vouches ≡ old.vouches → old.failures.number ≤ middle.failures.number
     → IsCutOff blocks middle new → IsCutOff blocks old new
 cut_off_since blocks old middle new volumes vouches counted is = record {
   done = is.done;
@@ -118,14 +118,14 @@ cut_off_since blocks old middle new volumes vouches counted is = record {
   appended = subst (λ (vs : Option (List Volume)). AppendInTurn is.done vs is.middle) volumes is.appended;
   in_part = is.in_part;
   vouches_are = is.vouches_are ∙ ap (λ (vs : List Vouch). changed retired is.block.0 (after_blocks is.done vs)) vouches;
-  failed = omega (arith, counted, is.failed);
+  failed = (omega (arith, counted, is.failed.0), is.failed.1);
 }
 
 -- ---- volumes that are tested one after another
 
 -- the first that may not be written to
-pub refused_at : (vouches : List Vouch) (volumes now : Option (List Volume)) (starts : List (List ℕ × ℕ)) (i : ℕ) (s : List ℕ × ℕ) (first before after : ℕ) (why : KeeperFault)
-    → i < length starts → s ≡ get_or starts i s → AllByRecursion (IsVouched vouches volumes) (take i starts) → now ≡ volumes → first ≤ before
+pub refused_at : (vouches : List Vouch) (volumes now : Option (List Volume)) (starts : List (List ℕ × ℕ)) (i : ℕ) (s : List ℕ × ℕ) (first before after : Failures) (why : KeeperFault)
+    → i < length starts → s ≡ get_or starts i s → AllByRecursion (IsVouched vouches volumes) (take i starts) → now ≡ volumes → first.number ≤ before.number
     → ChecksVolume vouches now before after s (Err why) → ChecksVolumes vouches volumes first after starts (Err why)
 refused_at vouches volumes now starts i s first before after why lt is all same le (inl h) =
     inl (
@@ -148,9 +148,8 @@ refused_at vouches volumes now starts i s first before after why lt is all same 
         rest = drop (suc i) starts;
         split = split_at starts i s lt is;
         serve = all;
-        refused = h.1;
+        refused = (h.1, (omega (arith, le, h.2.0), h.2.1));
       },
-      omega (arith, le, h.2),
     )
 
 -- ---- both
@@ -159,14 +158,70 @@ refused_at vouches volumes now starts i s first before after why lt is all same 
 pub not_vouched : (starts : List (List ℕ × ℕ)) (blocks : List (List ℕ × List ℕ)) (old new : Shelf) (why : KeeperFault) → IsKept old new
     → ChecksVolumes old.vouches old.volumes old.failures new.failures starts (Err why) → WritesBlocks starts blocks old new (Err why)
 not_vouched starts blocks old new why kept (inl h) = subst (λ (w : KeeperFault). WritesBlocks starts blocks old new (Err w)) (sym h.0) (kept, h.1)
-not_vouched starts blocks old new why kept (inr h) = subst (λ (w : KeeperFault). WritesBlocks starts blocks old new (Err w)) (sym h.0) (inl (record { kept = kept; first = h.1; failed = h.2 }))
+not_vouched starts blocks old new why kept (inr h) = subst (λ (w : KeeperFault). WritesBlocks starts blocks old new (Err w)) (sym h.0) (inl (record { kept = kept; first = h.1 }))
 
--- all of them may, and blocks are appended
-pub blocks_written : (starts : List (List ℕ × ℕ)) (blocks : List (List ℕ × List ℕ)) (old middle new : Shelf) (r : Result (Unit {0}) KeeperFault)
+-- all of them may, and the append of a block failed
+pub not_written : (starts : List (List ℕ × ℕ)) (blocks : List (List ℕ × List ℕ)) (old middle new : Shelf) (why : KeeperFault)
     → AllByRecursion (IsVouched old.vouches old.volumes) starts → middle.volumes ≡ old.volumes → middle.vouches ≡ old.vouches ++ new_entries old.vouches starts
-    → old.failures ≤ middle.failures → AppendsAll blocks middle new r → WritesBlocks starts blocks old new r
-blocks_written starts blocks old middle new (Ok u) all volumes vouches counted is =
-    record { serve = all; written = written_since blocks (with_entries starts old) middle new volumes vouches counted is }
-blocks_written starts blocks old middle new (Err why) all volumes vouches counted is =
+    → old.failures.number ≤ middle.failures.number → AppendsAll blocks middle new (Err why) → WritesBlocks starts blocks old new (Err why)
+not_written starts blocks old middle new why all volumes vouches counted is =
     subst (λ (w : KeeperFault). WritesBlocks starts blocks old new (Err w)) (sym is.0)
-    (inr (record { serve = all; cut_off = cut_off_since blocks (with_entries starts old) middle new volumes vouches counted is.1 }))
+    (inr (inl (record { serve = all; cut_off = cut_off_since blocks (with_entries starts old) middle new volumes vouches counted is.1 })))
+
+-- the blocks are appended, and then the volumes are synced
+written_kept : (blocks : List (List ℕ × List ℕ)) (old middle new : Shelf) → IsKept middle new → AreWritten blocks old middle → AreWritten blocks old new
+written_kept blocks old middle new kept is = record {
+  appended = subst (λ (vs : Option (List Volume)). AppendInTurn blocks old.volumes vs) (sym kept.volumes_are) is.appended;
+  vouches_are = kept.vouches_are ∙ is.vouches_are;
+  counted = omega (arith, is.counted, kept.counted);
+}
+
+pub blocks_synced : (starts : List (List ℕ × ℕ)) (blocks : List (List ℕ × List ℕ)) (old middle written new : Shelf) (r : Result (Unit {0}) KeeperFault)
+    → AllByRecursion (IsVouched old.vouches old.volumes) starts → middle.volumes ≡ old.volumes → middle.vouches ≡ old.vouches ++ new_entries old.vouches starts
+    → old.failures.number ≤ middle.failures.number → AreWritten blocks middle written → SyncsAll starts written new r → WritesBlocks starts blocks old new r
+blocks_synced starts blocks old middle written new (Ok u) all volumes vouches counted is synced = record {
+  serve = all;
+  written = written_kept blocks (with_entries starts old) written new synced (written_since blocks (with_entries starts old) middle written volumes vouches counted is);
+}
+blocks_synced starts blocks old middle written new (Err why) all volumes vouches counted is synced =
+    subst (λ (w : KeeperFault). WritesBlocks starts blocks old new (Err w)) (sym synced.0)
+    (inr (inr (record {
+      serve = all;
+      middle = written;
+      written = written_since blocks (with_entries starts old) middle written volumes vouches counted is;
+      unsynced = synced.1;
+    })))
+
+-- ---- volumes that are synced one after another
+
+pub kept_none : (s : Shelf) → IsKept s s
+kept_none s = record { volumes_are = refl; vouches_are = refl; counted = omega arith }
+
+-- the sync of the next failed
+pub unsynced_at : (starts : List (List ℕ × ℕ)) (i : ℕ) (s : List ℕ × ℕ) (old middle new : Shelf) → i < length starts → s ≡ get_or starts i s
+    → IsKept old middle → new.volumes ≡ middle.volumes → new.vouches ≡ changed retired s.0 middle.vouches → FailsOn s.0 middle.failures new.failures → IsUnsynced starts old new
+unsynced_at starts i s old middle new lt is kept volumes vouches failed = record {
+  earlier = take i starts;
+  start = s;
+  rest = drop (suc i) starts;
+  split = split_at starts i s lt is;
+  volumes_are = volumes ∙ kept.volumes_are;
+  vouches_are = vouches ∙ ap (changed retired s.0) kept.vouches_are;
+  failed = (omega (arith, kept.counted, failed.0), failed.1);
+}
+
+-- what is durable of a volume stays so
+pub durable_on : (told before after : Option (List Volume)) (name : List ℕ) → Lasts before after → IsDurableIn told before name → IsDurableIn told after name
+durable_on None before after name lasts is = tt
+durable_on (Some volumes) None None name lasts is = tt
+durable_on (Some volumes) None (Some b) name lasts is = absurd lasts
+durable_on (Some volumes) (Some a) None name lasts is = absurd lasts
+durable_on (Some volumes) (Some a) (Some b) name lasts is = λ bytes found.
+    let d = is bytes found in
+    let l = lasts name (bytes ++ d.0) d.1 in
+    (d.0 ++ l.0, l.1 ∙ ap (λ (bs : List ℕ). Some bs) (append_assoc bytes d.0 l.0))
+
+pub all_durable_on : (starts : List (List ℕ × ℕ)) (told before after : Option (List Volume)) → Lasts before after
+    → AllByRecursion (λ (s : List ℕ × ℕ). IsDurableIn told before s.0) starts → AllByRecursion (λ (s : List ℕ × ℕ). IsDurableIn told after s.0) starts
+all_durable_on [] told before after lasts all = tt
+all_durable_on (s ∷ ss) told before after lasts all = (durable_on told before after s.0 lasts all.0, all_durable_on ss told before after lasts all.1)

@@ -7,11 +7,10 @@ use Rattle.br_keeper.specs.Beginnings.{Beginning, last_id}
 use Rattle.br_keeper.specs.Publishing.{Publishing}
 use Rattle.br_keeper.specs.declared.fault.KeeperFault.{KeeperFault}
 use Rattle.br_keeper.specs.declared.fault.KeeperFault.TheVariants.{StoredNotPublished}
-use Rattle.br_keeper.specs.Writing.{Shelf}
 use Rattle.br_keeper.specs.Keeping.{Keeping}
 use Rattle.br_keeper.specs.Committing.{Commits}
-use Rattle.br_keeper.specs.Outcomes.{Backing}
-use Rattle.br_keeper.specs.Holding.{HoldsJob, Stands, job_with}
+use Rattle.br_keeper.specs.Outcomes.{Lasting}
+use Rattle.br_keeper.specs.Holding.{HoldsJob, Outlast, OutlastsCrash, Stands, job_with}
 
 -- the number of the job that was asked for, and the receipt or the refusal
 pub record Replied : Type 0 where
@@ -42,20 +41,21 @@ pub record Step (C W : Type 0) : Type 0 where
   pub result : Result Beginning KeeperFault
   pub after : Keeping C W
 
-module _ {C W : Type 0} (inserts refuses : JobRows → C → C → Type 0) (shelf : Keeping C W → Shelf) where
+module _ {C W : Type 0} where
   -- the keeper after the job was committed, or refused
-  abbrev pub IsCommit : ToCommit → Keeping C W → Keeping C W → Result Beginning KeeperFault → Type 0
-  IsCommit c old new result =
-      Commits inserts refuses shelf c old new result × HoldsJob (record { inserts = inserts; refuses = refuses; shelf = shelf }) c old new result
+  abbrev pub IsCommit : Lasting C W → ToCommit → Keeping C W → Keeping C W → Result Beginning KeeperFault → Type 0
+  IsCommit on c old new result =
+      Commits on.backing.inserts on.backing.refuses on.backing.shelf c old new result × HoldsJob on.backing c old new result
+      × OutlastsCrash on c old new result
 
   -- the keeper after these commits, one after the other
-  abbrev pub AreCommits : List (Step C W) → Keeping C W → Keeping C W → Type 0
-  AreCommits [] old new = new ≡ old
-  AreCommits (step ∷ steps) old new = IsCommit step.job old step.after step.result × AreCommits steps step.after new
+  abbrev pub AreCommits : Lasting C W → List (Step C W) → Keeping C W → Keeping C W → Type 0
+  AreCommits on [] old new = new ≡ old
+  AreCommits on (step ∷ steps) old new = IsCommit on step.job old step.after step.result × AreCommits on steps step.after new
 
   -- the keeper after some commits
-  abbrev pub IsLeftByCommits : Keeping C W → Keeping C W → Type 0
-  IsLeftByCommits old new = (steps : List (Step C W)) × AreCommits steps old new
+  abbrev pub IsLeftByCommits : Lasting C W → Keeping C W → Keeping C W → Type 0
+  IsLeftByCommits on old new = (steps : List (Step C W)) × AreCommits on steps old new
 
 -- a job is the first of these, and the others come after it
 abbrev pub IsFirst : ToCommit → (List Job → Type 0) → List Job → Type 0
@@ -74,7 +74,13 @@ module _ {C W : Type 0} where
   AreStored (step ∷ steps) jobs = StoresFirst step.job step.result (AreStored steps) jobs
 
   -- a keeper that stood stands after commits, with the jobs that they stored
-  abbrev pub CommitsStand : Backing C W → Type 0
-  CommitsStand b =
-      (steps : List (Step C W)) (old new : Keeping C W) (jobs : List Job) → AreCommits b.inserts b.refuses b.shelf steps old new → Stands b.shelf jobs old
-      → (more : List Job) × AreStored steps more × Stands b.shelf (jobs ++ more) new
+  abbrev pub CommitsStand : Lasting C W → Type 0
+  CommitsStand on =
+      (steps : List (Step C W)) (old new : Keeping C W) (jobs : List Job) → AreCommits on steps old new → Stands on.backing.shelf jobs old
+      → (more : List Job) × AreStored steps more × Stands on.backing.shelf (jobs ++ more) new
+
+  -- a keeper whose jobs a crash would leave keeps them so through commits, with the jobs that these stored
+  abbrev pub CommitsOutlast : Lasting C W → Type 0
+  CommitsOutlast on =
+      (steps : List (Step C W)) (old new : Keeping C W) (jobs : List Job) → AreCommits on steps old new → Stands on.backing.shelf jobs old
+      → Outlast on jobs old → (more : List Job) × AreStored steps more × Stands on.backing.shelf (jobs ++ more) new × Outlast on (jobs ++ more) new

@@ -12,7 +12,7 @@ use Rattle.br_keeper.specs.declared.fault.KeeperFault.TheVariants.{Memory, Dupli
 use Rattle.br_keeper.specs.Fault.{of_store_fault}
 use Rattle.br_keeper.specs.Vouching.{starts_of}
 use Rattle.br_history.specs.Preparing.{AreTooLong, IsSession}
-use Rattle.br_keeper.specs.Writing.{Shelf, IsKept, IsRetired, IsLengthRefused, AreWrittenFrom, IsCutOffFrom}
+use Rattle.br_keeper.specs.Writing.{Shelf, IsKept, IsRetired, IsLengthRefused, AreWrittenFrom, IsCutOffFrom, IsUnsyncedFrom}
 use Rattle.br_keeper.specs.Keeping.{Keeping, jobs_of}
 
 -- the vouched lengths at which the blocks of a job begin
@@ -57,6 +57,18 @@ pub record MeetsFailure (history : List JobRows) (c : ToCommit) (old new : Shelf
   pub ready : IsReady history c old rows written
   pub cut_off : IsCutOffFrom (starts_for history c old) written.blocks old new
 
+-- the session is ready and all its blocks are appended, and the sync of a volume of its places failed
+pub record MeetsFailedSync (history : List JobRows) (c : ToCommit) (old new : Shelf) : Type 0 where
+  pub rows : JobRows
+  pub written : Written
+  pub ready : IsReady history c old rows written
+  pub unsynced : IsUnsyncedFrom (starts_for history c old) written.blocks old new
+
+-- 44: the store of volumes failed at a length, at an append, or at a sync
+abbrev pub MeetsFailedStore : List JobRows → ToCommit → Shelf → Shelf → Type 0
+MeetsFailedStore history c old new =
+    MeetsFailedLength history c old new ⊎ (MeetsFailure history c old new ⊎ MeetsFailedSync history c old new)
+
 -- a span would end too late, though the row can be appended to the history
 abbrev pub IsTooLong : List JobRows → ToCommit → Shelf → Type 0
 IsTooLong history c old = (admitted history c.row ≡ Ok history) × AreTooLong c (starts_for history c old)
@@ -80,7 +92,7 @@ abbrev pub StoresJob : {C : Type 0} → (JobRows → C → C → Type 0) → (Jo
 StoresJob inserts refuses history c before after old new (Ok rows) = IsWrittenTo inserts history c before after old new rows
 StoresJob inserts refuses history c before after old new (Err Memory) = IsUntouched before after old new
 StoresJob inserts refuses history c before after old new (Err VolumeFails) =
-    (after ≡ before) × (MeetsFailedLength history c old new ⊎ MeetsFailure history c old new)
+    (after ≡ before) × MeetsFailedStore history c old new
 StoresJob inserts refuses history c before after old new (Err Store) = (rows : JobRows) × IsWrittenTo refuses history c before after old new rows
 StoresJob inserts refuses history c before after old new (Err StoredNotPublished) = ⊥
 StoresJob inserts refuses history c before after old new (Err BadCatalogue) = ⊥

@@ -7,6 +7,7 @@ use Rattle.br_model.specs.Stored.{Holds}
 use Rattle.br_model.specs.Session.{ToSave}
 use Rattle.br_model.specs.SessionHolds.{bytes_of_volume}
 use Rattle.br_history.specs.Saving.{ToCommit}
+use Rattle.br_volume.specs.Store.{MayBeLeft}
 use Rattle.br_keeper.specs.declared.vouched_lengths.Vouch.{Vouch}
 use Rattle.br_keeper.specs.Beginnings.{Beginning}
 use Rattle.br_keeper.specs.Publishing.{all_published, with_added}
@@ -15,7 +16,7 @@ use Rattle.br_keeper.specs.declared.fault.KeeperFault.TheVariants.{Store, Stored
 use Rattle.br_keeper.specs.Vouching.{end_of_jobs, is_retired, vouched}
 use Rattle.br_keeper.specs.Writing.{Shelf}
 use Rattle.br_keeper.specs.Keeping.{Keeping, jobs_of}
-use Rattle.br_keeper.specs.Outcomes.{Backing}
+use Rattle.br_keeper.specs.Outcomes.{Backing, Lasting}
 
 -- the job with these rows
 abbrev pub job_with : ToCommit → JobRows → Job
@@ -30,7 +31,7 @@ abbrev pub AreBlocks : List ℕ → Type 0
 AreBlocks bytes = (blocks : List LaidBlock) × AreLaid bytes None (λ _. true) blocks
 
 -- The jobs have these rows, and the volumes hold each. No volume is shorter than its vouched
--- length. One that is just as long, and to which no append has failed, consists of whole blocks.
+-- length. One that is just as long, and is not retired, consists of whole blocks.
 pub record AreStanding (vouches : List Vouch) (rows : List JobRows) (jobs : List Job) (volumes : List Volume) : Type 0 where
   pub rows_are : rows_in jobs ≡ rows
   pub hold : AllByRecursion (Holds volumes) jobs
@@ -83,3 +84,32 @@ module _ {C W : Type 0} where
   -- The volumes hold the job of a commit, if they held those that the keeper had stored.
   abbrev pub HoldsJob : Backing C W → ToCommit → Keeping C W → Keeping C W → Result Beginning KeeperFault → Type 0
   HoldsJob b c old new result = (jobs : List Job) → Stands b.shelf jobs old → StandsWith b c jobs old new result
+
+  -- A crash leaves these jobs: what is durable of the keeper's volumes holds each, if its volumes are
+  -- told, and what is durable of them.
+  abbrev pub Outlast : Lasting C W → List Job → Keeping C W → Type 0
+  Outlast on jobs k = IfSome (on.backing.shelf k).volumes (λ volumes. AreHeld (on.durable k.volumes) jobs)
+
+  -- A crash after a commit leaves these jobs, and the job of the commit, too: one whose rows the
+  -- catalogue inserted, published or not, and one whose rows it refused. A crash may leave these.
+  abbrev pub OutlastWith : Lasting C W → ToCommit → List Job → Keeping C W → Keeping C W → Result Beginning KeeperFault → Type 0
+  OutlastWith on c jobs old new (Ok receipt) =
+      (rows : JobRows) × (new.list ≡ all_published (with_added old.list rows)) × on.backing.inserts rows old.catalogue new.catalogue
+      × Outlast on (jobs ++ job_with c rows ∷ []) new
+  OutlastWith on c jobs old new (Err StoredNotPublished) =
+      (rows : JobRows) × (new.list ≡ with_added (all_published old.list) rows) × on.backing.inserts rows old.catalogue new.catalogue
+      × Outlast on (jobs ++ job_with c rows ∷ []) new
+  OutlastWith on c jobs old new (Err Store) =
+      (rows : JobRows) × on.backing.refuses rows old.catalogue new.catalogue × Outlast on (jobs ++ job_with c rows ∷ []) new
+  OutlastWith on c jobs old new (Err why) = Outlast on jobs new
+
+  -- A crash after a commit leaves its job, if one before it left those that the keeper had stored.
+  abbrev pub OutlastsCrash : Lasting C W → ToCommit → Keeping C W → Keeping C W → Result Beginning KeeperFault → Type 0
+  OutlastsCrash on c old new result =
+      (jobs : List Job) → Stands on.backing.shelf jobs old → Outlast on jobs old → OutlastWith on c jobs old new result
+
+-- whatever a crash leaves of volumes holds the jobs that are held by what is durable of them
+abbrev pub CrashesLeaveJobs : Type 0
+CrashesLeaveJobs =
+    (volumes durable left : List Volume) (jobs : List Job) → AllByRecursion (Holds durable) jobs → MayBeLeft volumes durable left
+    → AllByRecursion (Holds left) jobs

@@ -1,8 +1,9 @@
 -- What callers see of a keeper.
-use Rattle.std.specs.Prelude.{◌≡◌, ℕ, List, [], ◌++◌, Option, MatchOption, refl}
+use Rattle.std.specs.Prelude.{◌≡◌, List, [], ◌++◌, Option, MatchOption, refl}
 use Rattle.std.specs.Coded.{Coded, code_by, coded×, coded_list}
 use Rattle.br_model.specs.Volume.{Volume}
 use Rattle.br_model.specs.Job.{JobRows}
+use Rattle.br_volume.specs.Store.{Failures}
 use Rattle.br_keeper.specs.Beginnings.{Beginning, beginning}
 use Rattle.br_keeper.specs.Publishing.{Publishing, all_published, publishing}
 use Rattle.br_keeper.specs.Listing.{Waits}
@@ -36,7 +37,7 @@ module _ {C W : Type 0} where
   IsNew volumes k = (k.list ≡ publishing k.list.book k.list.opening [] []) × (k.volumes ≡ volumes) × (k.vouches ≡ [])
 
   -- the volumes and the vouched lengths
-  abbrev pub shelf_of : (W → Option (List Volume)) → (W → ℕ) → Keeping C W → Shelf
+  abbrev pub shelf_of : (W → Option (List Volume)) → (W → Failures) → Keeping C W → Shelf
   shelf_of holds failures k = shelf_in holds failures k.volumes k.vouches
 
   -- a job waited and is published, and this is its receipt; or none waited

@@ -1,5 +1,9 @@
 -- What each outcome of a commit says.
-use Rattle.std.specs.Prelude.{◌≡◌, ◌⊎◌, [], ◌∷◌, ◌++◌, ⊤}
+use Rattle.std.specs.Prelude.{◌≡◌, ◌⊎◌, List, [], ◌∷◌, ◌++◌, Option, Result, Ok, Err, ⊤}
+use Rattle.std.specs.List.{AllByRecursion}
+use Rattle.br_model.specs.Session.{Place}
+use Rattle.br_volume.specs.Store.{IsDurableIn}
+use Rattle.br_model.specs.Volume.{Volume as VolumeOf}
 use Rattle.br_model.specs.Job.{JobRows}
 use Rattle.br_history.specs.Saving.{ToCommit}
 use Rattle.br_volume.specs.declared.volume_store.VolumeStore as volumes
@@ -10,7 +14,7 @@ use Rattle.br_keeper.specs.Beginnings.{Beginning, beginning}
 use Rattle.br_keeper.specs.Publishing.{all_published, with_added}
 use Rattle.br_keeper.specs.Writing.{Shelf}
 use Rattle.br_keeper.specs.Keeping.{Keeping, jobs_of, shelf_of}
-use Rattle.br_keeper.specs.Committing.{IsReason, IsUntouched, IsWrittenTo, MeetsFailedLength, MeetsFailure}
+use Rattle.br_keeper.specs.Committing.{IsReason, IsUntouched, IsWrittenTo, MeetsFailedStore}
 
 -- what backs a keeper: how its catalogue inserts and refuses rows, and what its volumes hold
 pub record Backing (C W : Type 0) : Type 1 where
@@ -21,6 +25,15 @@ pub record Backing (C W : Type 0) : Type 1 where
 -- the backing of a keeper over these stores
 abbrev pub backing : {C W : Type 0} → jobs.Ghosts C → volumes.Ghosts W → Backing C W
 backing catalogue store = record { inserts = catalogue.inserts; refuses = catalogue.refuses; shelf = shelf_of store.holds store.failures }
+
+-- the same, and what is durable of the volumes
+pub record Lasting (C W : Type 0) : Type 1 where
+  pub backing : Backing C W
+  pub durable : W → Option (List VolumeOf)
+
+-- that of a keeper over these stores
+abbrev pub lasting : {C W : Type 0} → jobs.Ghosts C → volumes.Ghosts W → Lasting C W
+lasting catalogue store = record { backing = backing catalogue store; durable = store.durable }
 
 module _ {C W : Type 0} where
   -- All blocks are appended, and the catalogue has the rows. All jobs are published, this one last, and the
@@ -42,11 +55,11 @@ module _ {C W : Type 0} where
       ((rows : JobRows) × IsWrittenTo b.refuses (jobs_of old) c old.catalogue new.catalogue (b.shelf old) (b.shelf new) rows)
       × (new.list ≡ all_published old.list)
 
-  -- the catalogue is as before, and the volumes failed: at a length, or at an append, whose volume is retired
+  -- the catalogue is as before, and the volumes failed: at a length, or at an append or a sync, whose
+  -- volume is retired
   abbrev pub AppendsFrontAndRetires : Backing C W → ToCommit → Keeping C W → Keeping C W → Type 0
   AppendsFrontAndRetires b c old new =
-      ((new.catalogue ≡ old.catalogue) × (MeetsFailedLength (jobs_of old) c (b.shelf old) (b.shelf new)
-      ⊎ MeetsFailure (jobs_of old) c (b.shelf old) (b.shelf new))) × (new.list ≡ all_published old.list)
+      ((new.catalogue ≡ old.catalogue) × MeetsFailedStore (jobs_of old) c (b.shelf old) (b.shelf new)) × (new.list ≡ all_published old.list)
 
   -- Nothing of the job is stored, for this reason. A job that waited is published, unless memory runs out
   -- for that.
@@ -56,6 +69,18 @@ module _ {C W : Type 0} where
   Refuses b c old new why =
       (IsUntouched old.catalogue new.catalogue (b.shelf old) (b.shelf new) × IsReason (jobs_of old) c (b.shelf old) why)
       × (new.list ≡ all_published old.list)
+
+-- if the blocks of a job are appended and synced, whatever the catalogue says of its rows then, this
+-- holds
+abbrev pub IfSynced : {A : Type 0} → Result A KeeperFault → Type 0 → Type 0
+IfSynced (Ok x) claim = claim
+IfSynced (Err Store) claim = claim
+IfSynced (Err StoredNotPublished) claim = claim
+IfSynced (Err why) claim = ⊤
+
+-- all bytes of the volumes of a job's places are durable
+abbrev pub AreDurableAt : ToCommit → Option (List VolumeOf) → Option (List VolumeOf) → Type 0
+AreDurableAt c told durable = AllByRecursion (λ (p : Place). IsDurableIn told durable p.volume) c.places
 
 -- the refusals after the first append have clauses of their own
 abbrev pub IsEarly : KeeperFault → Type 0

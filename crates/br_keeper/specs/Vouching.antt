@@ -9,7 +9,7 @@ use Rattle.br_keeper.specs.declared.vouched_lengths.Vouch.{Vouch}
 abbrev pub entry_of : List Vouch → List ℕ → Option Vouch
 entry_of vouches volume = find (λ (v : Vouch). bytes_eq v.vol volume) vouches
 
--- an append to the volume has failed
+-- an append to the volume, or its sync, has failed
 abbrev pub is_retired : List Vouch → List ℕ → Bool
 is_retired vouches volume = option_map_or (λ (v : Vouch). v.is_retired) (entry_of vouches volume) false
 
@@ -34,7 +34,7 @@ vouched vouches jobs volume = option_map_or (λ (v : Vouch). v.bytes) (entry_of 
 abbrev pub starts_of : List Vouch → List JobRows → List Place → List (List ℕ × ℕ)
 starts_of vouches jobs places = map (λ (p : Place). (p.volume, vouched vouches jobs p.volume)) places
 
--- the entry of a volume to which no append has failed
+-- the entry of a volume of which no append and no sync has failed
 abbrev pub new_entry : List ℕ × ℕ → Vouch
 new_entry start = record { vol = start.0; bytes = start.1; is_retired = false }
 
@@ -51,6 +51,6 @@ changed f volume (v ∷ vs) = if bytes_eq v.vol volume then f v ∷ vs else v �
 abbrev pub longer : ℕ → Vouch → Vouch
 longer by v = record v { bytes = min (v.bytes + by) (2 ^ 64 - 1) }
 
--- an append has failed
+-- an append or a sync has failed
 abbrev pub retired : Vouch → Vouch
 retired v = record v { is_retired = true }

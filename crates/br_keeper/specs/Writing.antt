@@ -1,33 +1,32 @@
 -- Blocks that are appended to volumes with vouched lengths.
-use Rattle.std.specs.Prelude.{◌≡◌, ℕ, ◌<◌, ◌≤◌, ◌⊎◌, true, false, List, ◌∷◌, ◌++◌, length, fold, Option, Some, None, Result, Ok, Err, ⊤}
+use Rattle.std.specs.Prelude.{◌≡◌, ℕ, ◌≤◌, ◌⊎◌, true, false, List, ◌∷◌, ◌++◌, length, fold, Option, Some, None, Result, Ok, Err, ⊤}
 use Rattle.std.specs.List.{AllByRecursion}
 use Rattle.br_model.specs.Volume.{Volume}
 use Rattle.br_model.specs.SessionHolds.{bytes_of_volume}
-use Rattle.br_volume.specs.Store.{IsLengthIn, AppendsInPartTo, AreAppendedInTurn}
+use Rattle.br_volume.specs.Store.{AppendsInPartTo, AreAppendedInTurn, Failures, FailsOn, IsDurableIn, IsLengthIn}
 use Rattle.br_keeper.specs.declared.vouched_lengths.Vouch.{Vouch}
 use Rattle.br_keeper.specs.declared.fault.KeeperFault.{KeeperFault}
 use Rattle.br_keeper.specs.declared.fault.KeeperFault.TheVariants.{Memory, DuplicateJob, DuplicateSession, BadRow, RetiredVolume, Volume as VolumeFails, Store, StoredNotPublished, BadCatalogue}
 use Rattle.br_keeper.specs.Vouching.{is_retired, changed, longer, retired, new_entries}
 
--- the volumes, if the store tells them, the number of its failed calls, and the vouched lengths
--- of the volumes
+-- the volumes, if the store tells them, its failed calls, and the vouched lengths of the volumes
 pub record Shelf : Type 0 where
   pub volumes : Option (List Volume)
-  pub failures : ℕ
+  pub failures : Failures
   pub vouches : List Vouch
 
-abbrev pub shelf : Option (List Volume) → ℕ → List Vouch → Shelf
+abbrev pub shelf : Option (List Volume) → Failures → List Vouch → Shelf
 shelf volumes failures vouches = record { volumes = volumes; failures = failures; vouches = vouches }
 
 -- a store of volumes with the vouched lengths
-abbrev pub shelf_in : {W : Type 0} → (W → Option (List Volume)) → (W → ℕ) → W → List Vouch → Shelf
+abbrev pub shelf_in : {W : Type 0} → (W → Option (List Volume)) → (W → Failures) → W → List Vouch → Shelf
 shelf_in holds failures volumes vouches = shelf (holds volumes) (failures volumes) vouches
 
 -- no volume and no vouched length was changed
 pub record IsKept (old new : Shelf) : Type 0 where
   pub volumes_are : new.volumes ≡ old.volumes
   pub vouches_are : new.vouches ≡ old.vouches
-  pub counted : old.failures ≤ new.failures
+  pub counted : old.failures.number ≤ new.failures.number
 
 -- ---- before the first append
 
@@ -43,11 +42,11 @@ HasOtherLength (Some volumes) start = length (bytes_of_volume volumes start.0) �
 
 -- The volume may be written to. Or it is retired, or has another length; or it is not retired, and
 -- the store failed to return its length.
-abbrev pub ChecksVolume : List Vouch → Option (List Volume) → ℕ → ℕ → List ℕ × ℕ → Result (Unit {0}) KeeperFault → Type 0
+abbrev pub ChecksVolume : List Vouch → Option (List Volume) → Failures → Failures → List ℕ × ℕ → Result (Unit {0}) KeeperFault → Type 0
 ChecksVolume vouches volumes before after start (Ok u) = IsVouched vouches volumes start
 ChecksVolume vouches volumes before after start (Err why) =
     ((why ≡ RetiredVolume) × ((is_retired vouches start.0 ≡ true) ⊎ HasOtherLength volumes start))
-    ⊎ ((why ≡ VolumeFails) × (is_retired vouches start.0 ≡ false) × (before < after))
+    ⊎ ((why ≡ VolumeFails) × (is_retired vouches start.0 ≡ false) × FailsOn start.0 before after)
 
 -- the first of the volumes that may not be written to
 pub record IsFirstRefused (vouches : List Vouch) (volumes : Option (List Volume)) (starts : List (List ℕ × ℕ)) (P : List ℕ × ℕ → Type 0) : Type 0 where
@@ -63,16 +62,18 @@ abbrev pub IsRetired : List Vouch → Option (List Volume) → List (List ℕ ×
 IsRetired vouches volumes starts =
     IsFirstRefused vouches volumes starts (λ start. (is_retired vouches start.0 ≡ true) ⊎ HasOtherLength volumes start)
 
--- 44 before the first append: the volume is not retired, but its length is not known
-abbrev pub LacksLength : List Vouch → Option (List Volume) → List (List ℕ × ℕ) → Type 0
-LacksLength vouches volumes starts = IsFirstRefused vouches volumes starts (λ start. is_retired vouches start.0 ≡ false)
+-- 44 before the first append: the volume is not retired, and the store failed to return its length
+abbrev pub LacksLength : List Vouch → Option (List Volume) → Failures → Failures → List (List ℕ × ℕ) → Type 0
+LacksLength vouches volumes before after starts =
+    IsFirstRefused vouches volumes starts (λ start. (is_retired vouches start.0 ≡ false) × FailsOn start.0 before after)
 
 -- All volumes may be written to; or one is retired, and those before it may be written to; or the
 -- store failed to return the length of one, and those before it may be written to.
-abbrev pub ChecksVolumes : List Vouch → Option (List Volume) → ℕ → ℕ → List (List ℕ × ℕ) → Result (Unit {0}) KeeperFault → Type 0
+abbrev pub ChecksVolumes : List Vouch → Option (List Volume) → Failures → Failures → List (List ℕ × ℕ) → Result (Unit {0}) KeeperFault → Type 0
 ChecksVolumes vouches volumes before after starts (Ok u) = AllByRecursion (IsVouched vouches volumes) starts
 ChecksVolumes vouches volumes before after starts (Err why) =
-    ((why ≡ RetiredVolume) × IsRetired vouches volumes starts) ⊎ ((why ≡ VolumeFails) × LacksLength vouches volumes starts × (before < after))
+    ((why ≡ RetiredVolume) × IsRetired vouches volumes starts)
+    ⊎ ((why ≡ VolumeFails) × LacksLength vouches volumes before after starts)
 
 -- ---- appends
 
@@ -92,7 +93,7 @@ after_blocks blocks vouches = fold (λ vs (b : List ℕ × List ℕ). changed (l
 pub record AreWritten (blocks : List (List ℕ × List ℕ)) (old new : Shelf) : Type 0 where
   pub appended : AppendInTurn blocks old.volumes new.volumes
   pub vouches_are : new.vouches ≡ after_blocks blocks old.vouches
-  pub counted : old.failures ≤ new.failures
+  pub counted : old.failures.number ≤ new.failures.number
 
 -- the append of a block failed: those before it are appended, and at most a part of it; its volume
 -- is retired
@@ -105,7 +106,7 @@ pub record IsCutOff (blocks : List (List ℕ × List ℕ)) (old new : Shelf) : T
   pub appended : AppendInTurn done old.volumes middle
   pub in_part : AppendsInPartTo block.0 block.1 middle new.volumes
   pub vouches_are : new.vouches ≡ changed retired block.0 (after_blocks done old.vouches)
-  pub failed : old.failures < new.failures
+  pub failed : FailsOn block.0 old.failures new.failures
 
 -- all blocks are appended, or the append of one failed
 abbrev pub AppendsAll : List (List ℕ × List ℕ) → Shelf → Shelf → Result (Unit {0}) KeeperFault → Type 0
@@ -113,11 +114,37 @@ AppendsAll blocks old new (Ok u) = AreWritten blocks old new
 AppendsAll blocks old new (Err why) = (why ≡ VolumeFails) × IsCutOff blocks old new
 
 -- the same, for a store of volumes before and after
-abbrev pub AppendsAllTo : {W : Type 0} → (W → Option (List Volume)) → (W → ℕ) → List (List ℕ × List ℕ) → W → W → List Vouch → List Vouch → Result (Unit {0}) KeeperFault → Type 0
+abbrev pub AppendsAllTo : {W : Type 0} → (W → Option (List Volume)) → (W → Failures) → List (List ℕ × List ℕ) → W → W → List Vouch → List Vouch → Result (Unit {0}) KeeperFault → Type 0
 AppendsAllTo holds failures blocks old new before after result =
     AppendsAll blocks (shelf_in holds failures old before) (shelf_in holds failures new after) result
 
--- ---- both
+-- ---- syncs
+
+-- the sync of the volume of one of these failed: that volume is retired, and all else is as before
+pub record IsUnsynced (starts : List (List ℕ × ℕ)) (old new : Shelf) : Type 0 where
+  pub earlier : List (List ℕ × ℕ)
+  pub start : List ℕ × ℕ
+  pub rest : List (List ℕ × ℕ)
+  pub split : earlier ++ start ∷ rest ≡ starts
+  pub volumes_are : new.volumes ≡ old.volumes
+  pub vouches_are : new.vouches ≡ changed retired start.0 old.vouches
+  pub failed : FailsOn start.0 old.failures new.failures
+
+-- all volumes are synced, or the sync of one failed
+abbrev pub SyncsAll : List (List ℕ × ℕ) → Shelf → Shelf → Result (Unit {0}) KeeperFault → Type 0
+SyncsAll starts old new (Ok u) = IsKept old new
+SyncsAll starts old new (Err why) = (why ≡ VolumeFails) × IsUnsynced starts old new
+
+-- the same, for a store of volumes before and after
+abbrev pub SyncsAllTo : {W : Type 0} → (W → Option (List Volume)) → (W → Failures) → List (List ℕ × ℕ) → W → W → List Vouch → List Vouch → Result (Unit {0}) KeeperFault → Type 0
+SyncsAllTo holds failures starts old new before after result =
+    SyncsAll starts (shelf_in holds failures old before) (shelf_in holds failures new after) result
+
+-- if the store tells its volumes and what is durable, all bytes of each of these volumes are durable
+abbrev pub AreDurable : List (List ℕ × ℕ) → Option (List Volume) → Option (List Volume) → Type 0
+AreDurable starts told durable = AllByRecursion (λ (s : List ℕ × ℕ). IsDurableIn told durable s.0) starts
+
+-- ---- all of it
 
 -- the volumes with entries for these
 abbrev pub with_entries : List (List ℕ × ℕ) → Shelf → Shelf
@@ -133,19 +160,29 @@ pub record IsCutOffFrom (starts : List (List ℕ × ℕ)) (blocks : List (List �
   pub serve : AllByRecursion (IsVouched old.vouches old.volumes) starts
   pub cut_off : IsCutOff blocks (with_entries starts old) new
 
+-- all blocks are appended to volumes that have exactly these lengths, and the sync of one of these
+-- failed
+pub record IsUnsyncedFrom (starts : List (List ℕ × ℕ)) (blocks : List (List ℕ × List ℕ)) (old new : Shelf) : Type 0 where
+  pub serve : AllByRecursion (IsVouched old.vouches old.volumes) starts
+  pub middle : Shelf
+  pub written : AreWritten blocks (with_entries starts old) middle
+  pub unsynced : IsUnsynced starts middle new
+
 -- the store failed to return the length of one of them, and nothing is changed
 pub record IsLengthRefused (starts : List (List ℕ × ℕ)) (old new : Shelf) : Type 0 where
   pub kept : IsKept old new
-  pub first : LacksLength old.vouches old.volumes starts
-  pub failed : old.failures < new.failures
+  pub first : LacksLength old.vouches old.volumes old.failures new.failures starts
 
--- Out of memory and 43 come before the first append; 44 if the store did not return a length, or an
--- append failed.
+-- 44: the store did not return a length, or an append failed, or a sync
+abbrev pub FailsVolume : List (List ℕ × ℕ) → List (List ℕ × List ℕ) → Shelf → Shelf → Type 0
+FailsVolume starts blocks old new = IsLengthRefused starts old new ⊎ (IsCutOffFrom starts blocks old new ⊎ IsUnsyncedFrom starts blocks old new)
+
+-- Out of memory and 43 come before the first append.
 abbrev pub WritesBlocks : List (List ℕ × ℕ) → List (List ℕ × List ℕ) → Shelf → Shelf → Result (Unit {0}) KeeperFault → Type 0
 WritesBlocks starts blocks old new (Ok u) = AreWrittenFrom starts blocks old new
 WritesBlocks starts blocks old new (Err Memory) = IsKept old new
 WritesBlocks starts blocks old new (Err RetiredVolume) = IsKept old new × IsRetired old.vouches old.volumes starts
-WritesBlocks starts blocks old new (Err VolumeFails) = IsLengthRefused starts old new ⊎ IsCutOffFrom starts blocks old new
+WritesBlocks starts blocks old new (Err VolumeFails) = FailsVolume starts blocks old new
 WritesBlocks starts blocks old new (Err DuplicateJob) = ⊥
 WritesBlocks starts blocks old new (Err DuplicateSession) = ⊥
 WritesBlocks starts blocks old new (Err BadRow) = ⊥
@@ -154,6 +191,6 @@ WritesBlocks starts blocks old new (Err StoredNotPublished) = ⊥
 WritesBlocks starts blocks old new (Err BadCatalogue) = ⊥
 
 -- the same, for a store of volumes before and after
-abbrev pub WritesBlocksTo : {W : Type 0} → (W → Option (List Volume)) → (W → ℕ) → List (List ℕ × ℕ) → List (List ℕ × List ℕ) → W → W → List Vouch → List Vouch → Result (Unit {0}) KeeperFault → Type 0
+abbrev pub WritesBlocksTo : {W : Type 0} → (W → Option (List Volume)) → (W → Failures) → List (List ℕ × ℕ) → List (List ℕ × List ℕ) → W → W → List Vouch → List Vouch → Result (Unit {0}) KeeperFault → Type 0
 WritesBlocksTo holds failures starts blocks old new before after result =
     WritesBlocks starts blocks (shelf_in holds failures old before) (shelf_in holds failures new after) result

@@ -1,7 +1,8 @@
 //! Appends the blocks of a session to volumes.
-ghost use Rattle.std.specs.Prelude.{◌≡◌, ◌≤◌};
+ghost use Rattle.std.specs.Prelude.{◌≡◌, ◌≤◌, OnOk};
 ghost use Rattle.br_history.specs.Preparing.{seen};
-ghost use Rattle.br_keeper.specs.Writing.{AppendsAllTo, ChecksVolume, ChecksVolumes, WritesBlocksTo};
+ghost use Rattle.br_volume.specs.Store.{Lasts};
+ghost use Rattle.br_keeper.specs.Writing.{AppendsAllTo, AreDurable, ChecksVolume, ChecksVolumes, SyncsAllTo, WritesBlocksTo};
 
 use crate::fault::KeeperFault;
 use crate::vouched_lengths::{Vouch, enter, grow, is_retired, retire};
@@ -17,7 +18,8 @@ fn check_volume<W: VolumeStore>(
     bytes: u64,
 ) -> Result<(), KeeperFault>
     ensures same { W.holds volumes.new ≡ W.holds volumes.old }
-    ensures counted { W.failures volumes.old ≤ W.failures volumes.new }
+    ensures settled { W.durable volumes.new ≡ W.durable volumes.old }
+    ensures counted { (W.failures volumes.old).number ≤ (W.failures volumes.new).number }
     ensures checked { ChecksVolume vouches.now (W.holds volumes.old) (W.failures volumes.old) (W.failures volumes.new)
         (vol.now, bytes) result }
 {
@@ -38,7 +40,8 @@ fn check_volumes<W: VolumeStore>(
     starts: &[(VolName, u64)],
 ) -> Result<(), KeeperFault>
     ensures same { W.holds volumes.new ≡ W.holds volumes.old }
-    ensures counted { W.failures volumes.old ≤ W.failures volumes.new }
+    ensures settled { W.durable volumes.new ≡ W.durable volumes.old }
+    ensures counted { (W.failures volumes.old).number ≤ (W.failures volumes.new).number }
     ensures checked { ChecksVolumes vouches.now (W.holds volumes.old) (W.failures volumes.old) (W.failures volumes.new)
         starts.now result }
 {
@@ -55,7 +58,8 @@ fn append_all<W: VolumeStore>(
     vouches: &mut [Vouch],
     blocks: &[(VolName, Vec<u8>)],
 ) -> Result<(), KeeperFault>
-    ensures { AppendsAllTo W.holds W.failures (seen blocks.now) volumes.old volumes.new vouches.old vouches.new result }
+    ensures appended { AppendsAllTo W.holds W.failures (seen blocks.now) volumes.old volumes.new vouches.old vouches.new result }
+    ensures lasts { Lasts (W.durable volumes.old) (W.durable volumes.new) }
 {
     for block in blocks {
         match volumes.append(&block.0, &block.1) {
@@ -69,7 +73,30 @@ fn append_all<W: VolumeStore>(
     Ok(())
 }
 
-/// Appends blocks to volumes that have exactly these lengths.
+/// Makes volumes durable, one after the other, until that fails for one, which is retired.
+fn sync_all<W: VolumeStore>(
+    volumes: &mut W,
+    vouches: &mut [Vouch],
+    starts: &[(VolName, u64)],
+) -> Result<(), KeeperFault>
+    ensures synced { SyncsAllTo W.holds W.failures starts.now volumes.old volumes.new vouches.old vouches.new result }
+    ensures durable { OnOk result (AreDurable starts.now (W.holds volumes.new) (W.durable volumes.new)) }
+    ensures lasts { Lasts (W.durable volumes.old) (W.durable volumes.new) }
+{
+    for start in starts {
+        match volumes.sync(&start.0) {
+            Ok(()) => {}
+            Err(_) => {
+                retire(vouches, &start.0);
+                return Err(KeeperFault::Volume);
+            }
+        }
+    }
+    Ok(())
+}
+
+/// Appends blocks to volumes that have exactly these lengths, and makes the volumes durable.
+#[tactic(auto, using(crate::proofs::WritingLaws::not_vouched, crate::proofs::WritingLaws::not_written, crate::proofs::WritingLaws::blocks_synced, br_volume::proofs::SyncLaws::lasts_settled, br_volume::proofs::SyncLaws::lasts_same, br_volume::proofs::SyncLaws::lasts_more))]
 pub(crate) fn write_blocks<W: VolumeStore>(
     alloc: Global,
     volumes: &mut W,
@@ -77,10 +104,13 @@ pub(crate) fn write_blocks<W: VolumeStore>(
     starts: &[(VolName, u64)],
     blocks: &[(VolName, Vec<u8>)],
 ) -> Result<(), KeeperFault>
-    ensures { WritesBlocksTo W.holds W.failures starts.now (seen blocks.now) volumes.old volumes.new
+    ensures written { WritesBlocksTo W.holds W.failures starts.now (seen blocks.now) volumes.old volumes.new
         vouches.old.items vouches.new.items result }
+    ensures durable { OnOk result (AreDurable starts.now (W.holds volumes.new) (W.durable volumes.new)) }
+    ensures lasts { Lasts (W.durable volumes.old) (W.durable volumes.new) }
 {
     check_volumes(volumes, vouches, starts)?;
     enter(alloc, vouches, starts)?;
-    append_all(volumes, vouches, blocks)
+    append_all(volumes, vouches, blocks)?;
+    sync_all(volumes, vouches, starts)
 }

@@ -1,6 +1,6 @@
 //! A keeper that serves requests from a channel.
 ghost use Rattle.std.specs.Prelude.{◌≡◌};
-ghost use Rattle.br_keeper.specs.Keeping.{shelf_of};
+ghost use Rattle.br_keeper.specs.Outcomes.{lasting};
 ghost use Rattle.br_keeper.specs.Channel.{HasServed, IsCommit, IsLeftByCommits, IsReply};
 
 use crate::fault::KeeperFault;
@@ -90,7 +90,7 @@ fn answer<K: Naming, C: JobStore, W: VolumeStore, R: Wait>(
 ) -> Reply<K>
     requires { keeper.old.list.book ≡ K.book }
     ensures job { result.job ≡ job.row.id }
-    ensures commit { IsCommit C.inserts C.refuses (shelf_of W.holds W.failures) job keeper.old keeper.new result.receipt }
+    ensures commit { IsCommit (lasting C.JobStore W.VolumeStore) job keeper.old keeper.new result.receipt }
 {
     let id = job.row().id;
     let receipt = keeper.commit(rt, job);
@@ -108,7 +108,7 @@ pub fn serve<K: Naming, C: JobStore, W: VolumeStore, R: Wait>(
     inbox: &Receiver<Ask<K>>,
 ) -> Keeper<C, W>
     requires { keeper.list.book ≡ K.book }
-    ensures commits { IsLeftByCommits C.inserts C.refuses (shelf_of W.holds W.failures) keeper result }
+    ensures commits { IsLeftByCommits (lasting C.JobStore W.VolumeStore) keeper result }
     ensures list { HasServed keeper.list result.list }
 {
     let mut keeper = keeper;

@@ -1,13 +1,14 @@
 //! The keeper.
 ghost use Rattle.std.specs.Prelude.{◌≡◌, ◌<◌, [], length, Err, IfErr, IfOk, Ok, OnErr, OnOk, MatchResult};
-ghost use Rattle.br_volume.specs.Store.{AppendsInPartTo, AppendsTo};
+ghost use Rattle.br_volume.specs.Store.{AppendsInPartTo, AppendsTo, FailsOn, Lasts};
 ghost use Rattle.br_keeper.specs.Sessions.{AllKnow};
 ghost use Rattle.br_keeper.specs.Listing.{KnowsStored};
 ghost use Rattle.br_keeper.specs.Vouching.{vouched};
 ghost use Rattle.br_keeper.specs.Keeping.{IsNew, RepublishesKept, jobs_of, shelf_of};
 ghost use Rattle.br_keeper.specs.Committing.{Commits, IsNotMade, Stores};
-ghost use Rattle.br_keeper.specs.Holding.{HoldsJob, StandsIfHeld, StandsOn};
-ghost use Rattle.br_keeper.specs.Outcomes.{AppendsFrontAndRetires, IsEarly, OnlyAppends, Refuses, StoresAndPublishes, StoresUnpublished, backing};
+ghost use Rattle.br_keeper.specs.Holding.{HoldsJob, OutlastsCrash, StandsIfHeld, StandsOn};
+ghost use Rattle.br_keeper.specs.Outcomes.{AppendsFrontAndRetires, AreDurableAt, IfSynced, IsEarly, OnlyAppends, Refuses, StoresAndPublishes, StoresUnpublished, backing};
+ghost use Rattle.br_keeper.specs.Outcomes.{lasting};
 ghost use Rattle.br_keeper.specs.declared.fault.KeeperFault.TheVariants.{Store, StoredNotPublished, Volume};
 
 use crate::appending::write_blocks;
@@ -96,9 +97,9 @@ impl<C: JobStore, W: VolumeStore> Keeper<C, W> {
         (catalogue, volumes)
     }
 
-    /// Commits a job: writes its session to the volumes, inserts its rows into the catalogue, and
-    /// publishes them. Returns the receipt. Spans begin at the vouched lengths. Each block is one
-    /// append.
+    /// Commits a job: writes its session to the volumes, makes these durable, inserts its rows into
+    /// the catalogue, and publishes them. Returns the receipt. Spans begin at the vouched lengths.
+    /// Each block is one append. The volume of each place is synced, if it exists.
     ///
     /// A job that waits to be published is published first.
     ///
@@ -109,13 +110,14 @@ impl<C: JobStore, W: VolumeStore> Keeper<C, W> {
     /// - `DuplicateJob` if another job has the number, `DuplicateSession` if one has the session.
     /// - `BadRow` if a span would end after the address 2^63 - 2, or there would be 2^32 spans or
     ///   more.
-    /// - `RetiredVolume` if an append of this keeper to a volume of the places failed, or the
-    ///   volume has another length than the vouched one.
-    /// - `Volume` if the store of volumes fails. If it was an append, the blocks before it are on
-    ///   the volumes, and the first of its bytes may be. Its volume is retired.
-    /// - `Store` if the catalogue fails. All blocks are appended.
-    /// - `StoredNotPublished` if memory runs out for the publishing. All blocks are appended, and
-    ///   the catalogue has the job.
+    /// - `RetiredVolume` if an append of this keeper to a volume of the places failed, or its sync,
+    ///   or the volume has another length than the vouched one.
+    /// - `Volume` if the store of volumes fails at one of them. At a length nothing is changed. At
+    ///   an append the blocks before it are on the volumes, and the first of its bytes may be. At a
+    ///   sync all blocks are. The volume whose append or sync failed is retired.
+    /// - `Store` if the catalogue fails. All blocks are appended and durable.
+    /// - `StoredNotPublished` if memory runs out for the publishing. All blocks are appended and
+    ///   durable, and the catalogue has the job.
     pub fn commit<R: Wait>(&mut self, rt: &R, job: SavedJob) -> Result<Receipt, KeeperFault>
         ensures stored { IfOk result (StoresAndPublishes (backing C.JobStore W.VolumeStore) job self.old self.new) }
         ensures waits { result ≡ Err StoredNotPublished → StoresUnpublished (backing C.JobStore W.VolumeStore) job self.old self.new }
@@ -123,16 +125,20 @@ impl<C: JobStore, W: VolumeStore> Keeper<C, W> {
         ensures torn { result ≡ Err Volume → AppendsFrontAndRetires (backing C.JobStore W.VolumeStore) job self.old self.new }
         ensures refused { IfErr result (λ why. IsEarly why → Refuses (backing C.JobStore W.VolumeStore) job self.old self.new why) }
         ensures holds { HoldsJob (backing C.JobStore W.VolumeStore) job self.old self.new result }
+        ensures outlasts { OutlastsCrash (lasting C.JobStore W.VolumeStore) job self.old self.new result }
     {
-        // One clause of `commit_saved` says all outcomes at once: it is proved step by step.
+        // A clause of `commit_saved` says all outcomes at once: it is proved step by step.
         self.commit_saved(rt, &job)
     }
 
-    /// Writes the session of a job to the volumes, and inserts its rows into the catalogue. Returns
-    /// the rows.
+    /// Writes the session of a job to the volumes, makes these durable, and inserts the job's rows
+    /// into the catalogue. Returns the rows.
+    #[tactic(auto, using(crate::proofs::OutlastingLaws::not_prepared, crate::proofs::OutlastingLaws::not_synced, crate::proofs::OutlastingLaws::durable_places, br_volume::proofs::SyncLaws::lasts_itself))]
     fn store(&mut self, job: &SavedJob) -> Result<JobRows, KeeperFault>
         ensures job { Stores C.inserts C.refuses (shelf_of W.holds W.failures) job.now self.old self.new result }
         ensures list { self.new.list ≡ self.old.list }
+        ensures lasts { Lasts (W.durable self.old.volumes) (W.durable self.new.volumes) }
+        ensures durable { IfSynced result (AreDurableAt job.now (W.holds self.new.volumes) (W.durable self.new.volumes)) }
     {
         let Prepared {
             rows,
@@ -153,8 +159,11 @@ impl<C: JobStore, W: VolumeStore> Keeper<C, W> {
     }
 
     /// Commits a job.
+    #[tactic(auto, using(br_volume::proofs::SyncLaws::lasts_itself))]
     fn commit_saved<R: Wait>(&mut self, rt: &R, job: &SavedJob) -> Result<Receipt, KeeperFault>
-        ensures { Commits C.inserts C.refuses (shelf_of W.holds W.failures) job.now self.old self.new result }
+        ensures commits { Commits C.inserts C.refuses (shelf_of W.holds W.failures) job.now self.old self.new result }
+        ensures lasts { Lasts (W.durable self.old.volumes) (W.durable self.new.volumes) }
+        ensures durable { IfSynced result (AreDurableAt job.now (W.holds self.new.volumes) (W.durable self.new.volumes)) }
     {
         self.listing.publish(rt)?;
         let rows = self.store(job)?;
@@ -174,6 +183,7 @@ impl<C: JobStore, W: VolumeStore> Keeper<C, W> {
         ensures list { MatchResult result (RepublishesKept self.old self.new)
             (λ why. (why ≡ KeeperFault.Memory) × (self.new ≡ self.old)) }
         ensures stands { StandsOn (shelf_of W.holds W.failures) self.old self.new }
+        ensures settled { W.durable self.new.volumes ≡ W.durable self.old.volumes }
     {
         self.publish_waiting(rt)
     }
@@ -198,9 +208,10 @@ impl<C: JobStore, W: VolumeStore> Keeper<C, W> {
     pub fn append_raw(&mut self, vol: &VolName, bytes: &[u8]) -> Result<(), VolumeFault>
         ensures appended { OnOk result (AppendsTo vol.now bytes.now (W.holds self.old.volumes) (W.holds self.new.volumes)) }
         ensures refused { OnErr result (AppendsInPartTo vol.now bytes.now (W.holds self.old.volumes) (W.holds self.new.volumes)) }
-        ensures failed { OnErr result (W.failures self.old.volumes < W.failures self.new.volumes) }
+        ensures failed { OnErr result (FailsOn vol.now (W.failures self.old.volumes) (W.failures self.new.volumes)) }
         ensures same { self.new ≡ record self.old { volumes = self.new.volumes } }
         ensures stands { StandsOn (shelf_of W.holds W.failures) self.old self.new }
+        ensures lasts { Lasts (W.durable self.old.volumes) (W.durable self.new.volumes) }
     {
         self.volumes.append(vol, bytes)
     }

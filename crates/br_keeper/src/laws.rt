@@ -1,7 +1,7 @@
 //! Facts about keepers. The calls do nothing: a caller makes one for its clauses.
-ghost use Rattle.br_keeper.specs.Outcomes.{backing};
-ghost use Rattle.br_keeper.specs.Channel.{CommitsStand};
-ghost use Rattle.br_keeper.specs.Holding.{HeldVolumesAreWhole};
+ghost use Rattle.br_keeper.specs.Outcomes.{lasting};
+ghost use Rattle.br_keeper.specs.Channel.{CommitsOutlast, CommitsStand};
+ghost use Rattle.br_keeper.specs.Holding.{CrashesLeaveJobs, HeldVolumesAreWhole};
 ghost use Rattle.br_keeper.specs.Sessions.{ReceiptsAreShown};
 
 use crate::job_store::JobStore;
@@ -14,10 +14,22 @@ pub fn held_volumes_are_whole()
     ensures { HeldVolumesAreWhole }
 {}
 
+/// States that whatever a crash leaves of volumes holds the jobs that are held by what is durable of
+/// them.
+pub fn crashes_leave_jobs()
+    ensures { CrashesLeaveJobs }
+{}
+
 /// States that a keeper whose volumes hold the jobs that it has stored stands after any commits:
 /// its volumes then hold these jobs and all that the commits stored.
 pub fn commits_stand<C: JobStore, W: VolumeStore>()
-    ensures { CommitsStand (backing C.JobStore W.VolumeStore) }
+    ensures { CommitsStand (lasting C.JobStore W.VolumeStore) }
+{}
+
+/// States that commits keep what a crash leaves: if it would have left the jobs that a keeper had
+/// stored, it leaves these jobs after any commits, and all that the commits stored.
+pub fn commits_outlast<C: JobStore, W: VolumeStore>()
+    ensures { CommitsOutlast (lasting C.JobStore W.VolumeStore) }
 {}
 
 /// States that a snapshot shows at least as many jobs as each receipt counts that its session has

@@ -1,11 +1,12 @@
 //! The keeper: it commits jobs to a catalogue and to volumes, and publishes them while others read.
 //!
-//! A commit writes the session of a job to the volumes, inserts its rows into the catalogue, and
-//! then publishes them. Sessions take snapshots of what is published, and wait for nobody.
+//! A commit writes the session of a job to the volumes, makes these durable, inserts its rows into
+//! the catalogue, and then publishes them. So a crash leaves the blocks of each job of which it
+//! leaves the rows. Sessions take snapshots of what is published, and wait for nobody.
 //!
 //! The keeper vouches for the length of each volume: one past the end of its last span in the
 //! catalogue, or the end of a commit's last complete append. If a volume is longer, or an append to
-//! it failed, nothing is written to it any more.
+//! it or its sync failed, nothing is written to it any more.
 //!
 //! A `Publisher` has all jobs. It adds and publishes a job, and returns a receipt. A session
 //! learns the receipt: from then on its snapshots have the receipt's job. There are two copies of
@@ -43,6 +44,8 @@ pub use channel::{Ask, Naming, Reply, serve};
 pub use fault::KeeperFault;
 pub use job_store::{JobStore, JobStoreFault};
 pub use keeper::Keeper;
-pub use laws::{commits_stand, held_volumes_are_whole, receipts_are_shown};
+pub use laws::{
+    commits_outlast, commits_stand, crashes_leave_jobs, held_volumes_are_whole, receipts_are_shown,
+};
 pub use publisher::Publisher;
 pub use sessions::{Receipt, Session, Snapshot};

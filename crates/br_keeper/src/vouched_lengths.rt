@@ -17,7 +17,7 @@ pub(crate) struct Vouch {
     pub(crate) vol: VolName,
     /// The number of vouched bytes.
     pub(crate) bytes: u64,
-    /// Whether an append has failed.
+    /// Whether an append or a sync has failed.
     pub(crate) is_retired: bool,
 }
 
@@ -28,7 +28,7 @@ fn entry_of<'v>(vouches: &'v [Vouch], vol: &VolName) -> Option<&'v Vouch>
     vouches.iter().find(|v| v.vol.bytes() == vol.bytes())
 }
 
-/// Returns whether an append to the volume has failed.
+/// Returns whether an append to the volume, or its sync, has failed.
 pub(crate) fn is_retired(vouches: &[Vouch], vol: &VolName) -> bool
     ensures { result ≡ is_retired vouches.now vol.now }
 {
@@ -109,7 +109,7 @@ pub(crate) fn starts_of(
     Ok(starts)
 }
 
-/// Returns the entry of a volume to which no append has failed.
+/// Returns the entry of a volume of which no append and no sync has failed.
 fn new_entry(alloc: Global, vol: &VolName, bytes: u64) -> Result<Vouch, AllocError>
     ensures { IfOk result (λ v. v ≡ record { vol = vol.now; bytes = bytes; is_retired = false }) }
 {

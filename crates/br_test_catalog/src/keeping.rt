@@ -134,20 +134,20 @@ fn push_jobs(case: &mut Case, jobs: &[JobRows]) {
 /// Makes volumes of which this call fails.
 fn volumes_of(case: &mut Case, failure: &str) -> MemVolumes {
     let alloc = case.alloc();
-    let (store, length_fails_at) = match case.split(failure, ':') {
-        ("length", number) => (MemStore::new(alloc), case.u64_of(number)),
+    match case.split(failure, ':') {
+        ("length", number) => MemVolumes::new(MemStore::new(alloc), case.u64_of(number), 0),
+        ("sync", number) => MemVolumes::new(MemStore::new(alloc), 0, case.u64_of(number)),
         (number, kept) => {
             let (number, kept) = (case.u64_of(number), case.u32_of(kept));
-            (MemStore::failing_at(alloc, number, kept as usize), 0)
+            MemVolumes::new(MemStore::failing_at(alloc, number, kept as usize), 0, 0)
         }
-    };
-    MemVolumes::new(store, length_fails_at)
+    }
 }
 
 /// Runs a call: makes a keeper with sixteen sessions over a catalogue without jobs, takes the
 /// steps, and prints what one of the sessions sees after the keeper has ended, and what is left.
 /// `NUMBER:KEPT` tells which append fails (0 for none), and the number of its bytes that are kept;
-/// `length:NUMBER` which call for a length fails.
+/// `length:NUMBER` which call for a length fails, `sync:NUMBER` which sync.
 pub(crate) fn run<R: Wait>(rt: &R, case: &mut Case, failure: &str, steps: &[&str]) {
     let alloc = case.alloc();
     let volumes = volumes_of(case, failure);

@@ -109,7 +109,7 @@ fn plan_each<R: Wait>(
 pub(crate) fn run<R: Wait>(rt: &R, case: &mut Case, moment: &str, jobs: &[&str]) {
     let alloc = case.alloc();
     let moment = case.u64_of(moment);
-    let volumes = MemVolumes::new(MemStore::new(alloc), 0);
+    let volumes = MemVolumes::new(MemStore::new(alloc), 0, 0);
     let catalogue = MemJobs {
         alloc,
         history: History::new(alloc),

@@ -71,9 +71,19 @@ fn read_all(case: &mut Case, disk: MemDisk, reads: &[&str]) {
     }
 }
 
-/// Appends `NAME:TEXT` through the trait, or asks for the length of the volume NAME. Prints the
-/// result.
+/// Syncs a volume through the trait, and prints the result.
+fn sync(case: &mut Case, store: &mut impl VolumeStore, name: &str) {
+    if let Some(vol) = case.vol_of(name) {
+        shown(case, &store.sync(&vol));
+    }
+}
+
+/// Appends `NAME:TEXT` through the trait, syncs the volume of `!NAME`, or asks for the length of the
+/// volume NAME. Prints the result.
 fn ask(case: &mut Case, store: &mut impl VolumeStore, field: &str) {
+    if let Some(name) = field.strip_prefix('!') {
+        return sync(case, store, name);
+    }
     let (name, text) = field.split_once(':').unwrap_or((field, ""));
     let Some(vol) = case.vol_of(name) else {
         return;

@@ -36,7 +36,7 @@ append_grows volume bytes (Some earlier) (Some later) h = appended_extends volum
 append_grows volume bytes None (Some later) h = h
 append_grows volume bytes (Some earlier) None h = h
 
-part_extends : (volume bytes : List ℕ) (earlier later : List Volume) → IsAppendedInPart volume bytes earlier later → Extends later earlier
+pub part_extends : (volume bytes : List ℕ) (earlier later : List Volume) → IsAppendedInPart volume bytes earlier later → Extends later earlier
 part_extends volume bytes earlier later (inl same) = rw same (extends_itself earlier)
 part_extends volume bytes earlier later (inr part) = appended_extends volume part.0 earlier later part.3
 

@@ -5,3 +5,4 @@ pub mod GrowingLaws
 pub mod FolderLaws
 pub mod FreeLaws
 pub mod StoreLaws
+pub mod SyncLaws

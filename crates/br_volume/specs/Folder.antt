@@ -1,10 +1,12 @@
 -- Volumes in a folder of a disk.
-use Rattle.std.specs.Prelude.{◌≡◌, ℕ, ◌⊎◌, ◌+◌, ◌<◌, if◌then◌else◌, List, [], ◌∷◌, ◌++◌, length, take, drop, flat_map, bytes_eq, Option, Some, None, option_map, Result, Ok, Err, ⊤}
+use Rattle.std.specs.Prelude.{◌≡◌, ℕ, ◌==◌, false, ◌⊎◌, ◌+◌, ◌<◌, if◌then◌else◌, List, [], ◌∷◌, ◌++◌, length, take, drop, flat_map, bytes_eq, Option, Some, None, option_map, Result, Ok, Err, ⊤}
+use Rattle.std.specs.List.{list_any}
 use Rattle.br_model.specs.Volume.{Volume}
 use Rattle.br_fs.specs.Tree.{Tree}
+use Rattle.br_fs.specs.Durable.{IsDurable}
 use Rattle.br_fs.specs.Calls.{Appends, HasFile, IsNothing}
 use Rattle.br_volume.specs.Drive.{bytes_from, bytes_got}
-use Rattle.br_volume.specs.Store.{AppendsTo, AppendsInPartTo}
+use Rattle.br_volume.specs.Store.{AppendsTo, AppendsInPartTo, Failures, IsDurableIn}
 use Rattle.br_fs.specs.declared.fault.DiskFault.{DiskFault}
 use Rattle.br_fs.specs.declared.fault.DiskFault.TheVariants as disk
 use Rattle.br_volume.specs.declared.drive.Got.{Got}
@@ -20,12 +22,19 @@ drive_fault disk.Exists = Fault
 drive_fault disk.Interrupted = Fault
 drive_fault disk.Failed = Fault
 
--- a drive or a store over a folder: what its disk tells, the folder's path, and the number of failed
--- calls
+-- a drive over a folder: what its disk tells, the folder's path, and the number of failed calls
 pub record InFolder : Type 0 where
   pub told : Option Tree
   pub path : List ℕ
   pub failures : ℕ
+
+-- a store over a folder: what its disk tells, and what of it is durable; the folder's path, and the
+-- failed calls
+pub record StoreInFolder : Type 0 where
+  pub told : Option Tree
+  pub durable : Option (List Volume)
+  pub path : List ℕ
+  pub failures : Failures
 
 -- the path of a volume's file: the folder's, a slash, and the volume's name
 abbrev pub file_path : List ℕ → List ℕ → List ℕ
@@ -44,6 +53,29 @@ volumes_in folder files = flat_map (volume_in folder) files
 -- the volumes of a folder of a disk, if the disk tells its files
 abbrev pub volumes_told : List ℕ → Option Tree → Option (List Volume)
 volumes_told folder told = option_map (λ (tree : Tree). volumes_in folder tree.files) told
+
+-- what is durable of the volumes of a folder, if the disk tells it
+abbrev pub durable_told : List ℕ → Option (List Volume) → Option (List Volume)
+durable_told folder durable = option_map (volumes_in folder) durable
+
+-- if the disk tells its files and what is durable, all bytes of the file are durable
+abbrev pub IsSyncedAt : List ℕ → Option Tree → Option (List Volume) → Type 0
+IsSyncedAt path None durable = ⊤
+IsSyncedAt path (Some tree) None = ⊤
+IsSyncedAt path (Some tree) (Some durable) = IsDurable tree.files durable path
+
+-- the name has no slash
+abbrev pub IsPlain : List ℕ → Type 0
+IsPlain name = list_any (λ b. b == 47) name ≡ false
+
+-- if the path is that of a file of the folder itself, all bytes of the file are durable
+abbrev pub IsSyncedIn : List ℕ → List ℕ → Option Tree → Option (List Volume) → Type 0
+IsSyncedIn folder path told durable =
+    (name : List ℕ) → IsPlain name → path ≡ folder ++ 47 ∷ name → IsSyncedAt path told durable
+
+-- if the disk tells its files and what is durable, all bytes of the volume are durable
+abbrev pub IsSyncedBelow : List ℕ → List ℕ → Option Tree → Option (List Volume) → Type 0
+IsSyncedBelow folder volume told durable = IsDurableIn (volumes_told folder told) (durable_told folder durable) volume
 
 -- if the disk tells its files, a file is at the path, and these are its next bytes
 abbrev pub HasBlock : Option Tree → List ℕ → ℕ → ℕ → List ℕ → Got → Type 0

@@ -1,9 +1,9 @@
 //! A folder's path, and files in the folder.
-ghost use Rattle.std.specs.Prelude.{◌≡◌, IfOk, IfErr, Err, string_bytes};
+ghost use Rattle.std.specs.Prelude.{◌≡◌, IfOk, IfErr, OnOk, Err, string_bytes};
 ghost use Rattle.br_fs.specs.Calls.{IsFound, IsNoFile};
 ghost use Rattle.br_fs.specs.declared.kind.Kind.TheVariants.{File};
 ghost use Rattle.br_fs.specs.declared.fault.DiskFault.TheVariants.{NotFound};
-ghost use Rattle.br_volume.specs.Folder.{FindsNone, IsKnownFree, drive_fault, file_path};
+ghost use Rattle.br_volume.specs.Folder.{FindsNone, IsKnownFree, IsPlain, drive_fault, file_path};
 ghost use Rattle.br_volume.specs.declared.fault.DriveFault.TheVariants.{Fault, UnknownVolume};
 
 use crate::fault::DriveFault;
@@ -37,10 +37,19 @@ impl Folder {
         })
     }
 
+    /// Returns the folder's path.
+    pub(crate) fn path(&self) -> &str
+        ensures { result.now ≡ self.now }
+    {
+        self.path.as_str()
+    }
+
     /// Returns the path of a volume's file.
+    #[tactic(auto, using(crate::proofs::SyncLaws::volume_is_plain))]
     pub(crate) fn path_of(&self, vol: &VolName) -> Result<String, DriveFault>
         ensures path { IfOk result (λ path. string_bytes path ≡ file_path self.now vol.now) }
         ensures known { IfErr result (λ fault. fault ≡ UnknownVolume → ⊥) }
+        ensures plain { OnOk result (IsPlain vol.now) }
     {
         let mut path = Vec::from_slice(self.alloc, self.path.as_bytes())?;
         path.push(b'/').map_err(AllocError::from)?;
@@ -82,6 +91,7 @@ pub(crate) fn find_file<D: Disk>(disk: &mut D, path: &str) -> Result<u64, DriveF
     ensures found { IfOk result (λ n. IsFound (D.told disk.new) path.now File n) }
     ensures missing { result ≡ Err UnknownVolume → IsNoFile (D.told disk.new) path.now }
     ensures same { D.told disk.new ≡ D.told disk.old }
+    ensures settled { D.durable disk.new ≡ D.durable disk.old }
     ensures free { IsKnownFree (D.steady disk.old) (D.told disk.old) path.now → FindsNone (D.steady disk.new) result }
 {
     match disk.find(path) {

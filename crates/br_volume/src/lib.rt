@@ -13,6 +13,7 @@
 mod borrowed;
 mod count;
 mod drive;
+mod failed_calls;
 mod fault;
 mod folder;
 mod folder_drive;
@@ -25,6 +26,7 @@ mod volume_store;
 pub use borrowed::BorrowedDrive;
 pub use count::Count;
 pub use drive::{Drive, Got};
+pub use failed_calls::FailedCalls;
 pub use fault::{DriveFault, VolumeFault};
 pub use folder_drive::FolderDrive;
 pub use folder_store::{FolderStore, open_or_make};

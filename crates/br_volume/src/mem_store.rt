@@ -1,13 +1,13 @@
-ghost use Rattle.std.specs.Prelude.{◌≡◌, ◌+◌, ◌<◌, ◌≤◌, [], length, Option, OnOk, OnErr, IfOk};
+ghost use Rattle.std.specs.Prelude.{◌≡◌, ◌≤◌, [], length, Option, OnOk, OnErr, IfOk};
 ghost use Rattle.std.specs.Prelude.{bytes_eq, position, take, true, false, Err, Ok};
 ghost use Rattle.br_model.specs.SessionHolds.{bytes_of_volume};
 ghost use Rattle.br_volume.specs.Calls.{is_out};
 ghost use Rattle.br_volume.specs.Memory.{volumes_of};
 ghost use Rattle.br_volume.specs.MemStore.{FailsInPart, Stored, after_append, after_failure, failing, sound, with_appended};
-ghost use Rattle.br_volume.specs.Store.{AppendsTo, AppendsInPartTo, IsAppendedInPart, IsLengthIn};
+ghost use Rattle.br_volume.specs.Store.{AppendsTo, AppendsInPartTo, FailsOn, IsAppendedInPart, IsDurableIn, IsLengthIn, Lasts, one_more};
 ghost use Rattle.br_volume.specs.declared.fault.VolumeFault.TheVariants.{Failed};
 
-use crate::count::Count;
+use crate::failed_calls::FailedCalls;
 use crate::fault::VolumeFault;
 use crate::mem::bytes_of;
 use crate::volume_store::VolumeStore;
@@ -16,12 +16,13 @@ use std::alloc::{AllocError, Global};
 use std::marker::Model;
 
 /// A store over memory. An append fails if memory runs out, and then changes nothing. One append may
-/// be made to fail after the first of its bytes.
+/// be made to fail after the first of its bytes. What is appended is durable at once: the store
+/// tells of a crash that it loses nothing.
 #[derive(Drop)]
 pub struct MemStore {
     alloc: Global,
     volumes: Vec<(VolName, Vec<u8>)>,
-    failures: Count,
+    failures: FailedCalls,
     /// The number of appends before the one that is to fail, if one is.
     appends_left: Option<u64>,
     /// The number of bytes that this one keeps.
@@ -36,7 +37,7 @@ impl Model for MemStore {
 
     ghost view = { λ s. record {
       volumes = volumes_of s.volumes.items;
-      failures = s.failures.number;
+      failures = s.failures;
       appends_left = s.appends_left;
       bytes_kept = s.bytes_kept;
     } };
@@ -59,7 +60,7 @@ impl MemStore {
         MemStore {
             alloc,
             volumes: Vec::new(alloc),
-            failures: Count::zero(),
+            failures: FailedCalls::none(),
             appends_left: k.checked_sub(1),
             bytes_kept: kept,
         }
@@ -77,7 +78,7 @@ impl MemStore {
         ensures { IfOk result (λ store. store ≡ sound self.now.volumes) }
     {
         let volumes = copied(alloc, &self.volumes)?;
-        let failures = Count::zero();
+        let failures = FailedCalls::none();
         Ok(MemStore {
             alloc,
             volumes,
@@ -106,10 +107,10 @@ impl MemStore {
     fn fail(&mut self, vol: &VolName, bytes: &[u8])
         ensures part { FailsInPart vol.now bytes.now self.old self.new }
         ensures refused { IsAppendedInPart vol.now bytes.now self.old.volumes self.new.volumes }
-        ensures counted { self.new.failures ≡ self.old.failures + 1 }
+        ensures counted { self.new.failures ≡ one_more vol.now self.old.failures }
     {
         self.appends_left = None;
-        self.failures = self.failures.next();
+        self.failures = self.failures.and(vol);
         let front = first_of(bytes, self.bytes_kept);
         let _ = append_to(self.alloc, &mut self.volumes, vol, front);
     }
@@ -182,18 +183,22 @@ impl VolumeStore for MemStore {
 
     ghost holds = { λ s. Some s.volumes };
 
+    ghost durable = { λ s. Some s.volumes };
+
     ghost failures = { λ s. s.failures };
 
     /// Appends bytes, unless this append is made to fail. A new volume comes after the others.
+    #[tactic(auto, using(crate::proofs::SyncLaws::part_lasts, crate::proofs::SyncLaws::appended_lasts, crate::proofs::SyncLaws::store_lasts))]
     fn append(&mut self, vol: &VolName, bytes: &[u8]) -> Result<(), VolumeFault>
         ensures appended { OnOk result (AppendsTo vol.now bytes.now (Some self.old.volumes) (Some self.new.volumes)) }
         ensures refused { OnErr result (AppendsInPartTo vol.now bytes.now (Some self.old.volumes) (Some self.new.volumes)) }
-        ensures counted { self.old.failures ≤ self.new.failures }
-        ensures failed { OnErr result (self.old.failures < self.new.failures) }
+        ensures lasts { Lasts (Some self.old.volumes) (Some self.new.volumes) }
+        ensures counted { self.old.failures.number ≤ self.new.failures.number }
+        ensures failed { OnErr result (FailsOn vol.now self.old.failures self.new.failures) }
         ensures exact { OnOk result (self.new ≡ after_append vol.now bytes.now self.old) }
         ensures due { is_out self.old.appends_left ≡ true → result ≡ Err Failed }
         ensures part { is_out self.old.appends_left ≡ true → FailsInPart vol.now bytes.now self.old self.new }
-        ensures kept { is_out self.old.appends_left ≡ false → OnErr result (self.new ≡ after_failure self.old) }
+        ensures kept { is_out self.old.appends_left ≡ false → OnErr result (self.new ≡ after_failure vol.now self.old) }
     {
         if self.is_due() {
             self.fail(vol, bytes);
@@ -203,7 +208,7 @@ impl VolumeStore for MemStore {
         match append_to(self.alloc, &mut self.volumes, vol, bytes) {
             Ok(()) => Ok(()),
             Err(AllocError) => {
-                self.failures = self.failures.next();
+                self.failures = self.failures.and(vol);
                 Err(VolumeFault::Failed)
             }
         }
@@ -213,13 +218,28 @@ impl VolumeStore for MemStore {
     fn length(&mut self, vol: &VolName) -> Result<u64, VolumeFault>
         ensures told { IfOk result (λ n. IsLengthIn (Some self.old.volumes) vol.now n) }
         ensures same { self.new ≡ self.old }
-        ensures counted { self.old.failures ≤ self.new.failures }
-        ensures failed { OnErr result (self.old.failures < self.new.failures) }
+        ensures settled { self.new ≡ self.old }
+        ensures counted { self.old.failures.number ≤ self.new.failures.number }
+        ensures failed { OnErr result (FailsOn vol.now self.old.failures self.new.failures) }
         ensures exact { result ≡ Ok (length (bytes_of_volume self.old.volumes vol.now)) }
     {
         match bytes_of(&self.volumes, vol) {
             None => Ok(0),
             Some(bytes) => Ok(bytes.len() as u64),
         }
+    }
+
+    /// Does nothing, and is never refused.
+    #[tactic(auto, using(crate::proofs::SyncLaws::durable_itself, crate::proofs::SyncLaws::store_lasts))]
+    fn sync(&mut self, vol: &VolName) -> Result<(), VolumeFault>
+        ensures synced { OnOk result (IsDurableIn (Some self.new.volumes) (Some self.new.volumes) vol.now) }
+        ensures same { self.new ≡ self.old }
+        ensures lasts { Lasts (Some self.old.volumes) (Some self.new.volumes) }
+        ensures counted { self.old.failures.number ≤ self.new.failures.number }
+        ensures failed { OnErr result (FailsOn vol.now self.old.failures self.new.failures) }
+        ensures exact { result ≡ Ok tt }
+    {
+        let _ = vol;
+        Ok(())
     }
 }

@@ -3,6 +3,7 @@ use Rattle.br_model.specs.Job.{JobRow}
 use Rattle.br_keeper.specs.Beginnings.{Beginning}
 use Rattle.br_keeper.specs.Channel.{IsCommit, Replied}
 use Rattle.br_keeper.specs.Keeping.{shelf_of}
+use Rattle.br_keeper.specs.Outcomes.{lasting}
 use Rattle.br_keeper.specs.declared.fault.KeeperFault.{KeeperFault}
 use Rattle.br_keeper.proofs.OutcomeLaws.{commits_of}
 use Rattle.br_keeper.proofs.ServedLaws.{replies}
@@ -23,9 +24,10 @@ returns-clause-commit g c =
     let shelf = shelf_of g.W.VolumeStore.holds g.W.VolumeStore.failures in
     let says = c.commit-receipt.ensures in
     subst
-    (λ (r : Result Beginning KeeperFault). IsCommit g.C.JobStore.inserts g.C.JobStore.refuses shelf c.args.job c.args.keeper.now c.commit-receipt.new.self r)
+    (λ (r : Result Beginning KeeperFault). IsCommit (lasting g.C.JobStore g.W.VolumeStore) c.args.job c.args.keeper.now c.commit-receipt.new.self r)
     (sym (ap (λ (r : Replied). r.receipt) c.reply_to.ensures)) (
       commits_of g.C.JobStore.inserts g.C.JobStore.refuses shelf c.args.job c.args.keeper.now c.commit-receipt.new.self c.commit-receipt.result
           says.stored says.waits says.blocks says.torn says.refused,
       says.holds,
+      says.outlasts,
     )
