@@ -35,7 +35,7 @@ mod tables;
 mod version;
 
 pub use br_catalog_rows::{StoreFault, inserted_jobs_load};
-pub use crash_laws::{commits_outlive_crashes, refused_jobs_are_whole};
+pub use crash_laws::{commits_outlive_crashes, crashes_leave_found_jobs, refused_jobs_are_whole};
 pub use look_beside::Beside;
 pub use look_fault::LookFault;
 pub use look_file::look;
