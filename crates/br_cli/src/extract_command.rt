@@ -13,11 +13,11 @@ use br_bsr::{Bootstrap, BsrFault};
 use br_cli_common::{CLEAN, ExtractOptions, REFUSED, Target, refuse_start};
 use br_cli_progress::{Gauge, WatchedSink, WatchedWriter};
 use br_cli_target::{
-    BAD_STREAM, Channel, Ending, LeavingSink, PutExtent, Streamed, TarEnd, TarFault, ToldOutcomes,
-    add_tar_end, advise, end_stream, folder_of, gauge_of, lacks_volumes, leaving_over, log_fault,
-    refuse_log, refuse_place, restore_over, say_conflicts, say_files, say_nowhere, say_stop,
-    say_volumes, tar_into, tar_onto, tell_others, tell_outcomes, with_watched_drives,
-    with_watched_sink,
+    BAD_STREAM, Channel, Ending, LeavingSink, PutExtent, Settle, Streamed, TarEnd, TarFault,
+    ToldOutcomes, add_tar_end, advise, end_stream, folder_of, gauge_of, lacks_volumes,
+    leaving_over, log_fault, refuse_log, refuse_place, restore_over, say_conflicts, say_files,
+    say_nowhere, say_stop, say_volumes, tar_into, tar_onto, tell_others, tell_outcomes,
+    with_watched_drives, with_watched_sink,
 };
 use br_engine::{
     ExtractFault, Extracted, Flush, ReadBootstrap, Restore, RestoreEnd, RestoreOrder, read_text,
@@ -254,7 +254,14 @@ pub fn set_up_extract<'g, 'r, 'p>(
     ensures volumes { IfOk result (λ setup. AreOver given.now.volumes.now setup.1.drives.items) }
 {
     let into = folder_of(given.target);
-    let sink = leaving_over(rt, gauge, given.wanted.stops, given.start, into)?;
+    let sink = leaving_over(
+        rt,
+        gauge,
+        given.wanted.stops,
+        given.start,
+        given.syncs,
+        into,
+    )?;
     set_up_over(rt, given, sink)
 }
 
@@ -369,7 +376,7 @@ fn extent_of(run: &Result<Extracted, ExtractFault>) -> PutExtent
 
 /// Restores into the tar stream of a sink, and ends the stream if all files were put. The manifest goes
 /// to the writer before.
-fn extract_stream<D: Drive + Send, W: Flush, T: Flush + Drop>(
+fn extract_stream<D: Drive + Send, W: Flush, T: Settle + Drop>(
     threads: &(impl Threads + Wait + Sync),
     extraction: &Extraction<'_>,
     restore: &mut Restore<D, WatchedSink<'_, '_, TarSink<T>>>,
@@ -380,6 +387,7 @@ fn extract_stream<D: Drive + Send, W: Flush, T: Flush + Drop>(
     ensures streams { StreamsTo D.Drive W.Write T.contents extraction.now (restore.old, writer.old) (restore.new, writer.new) result }
     ensures flushed { IfOk result.run (λ _. W.is_flushed writer.new) }
     ensures shown { IfSome result.writer (λ w. IsShown (T.is_flushed w) result.end) }
+    ensures settled { IfSome result.writer (λ w. IsShown (T.is_settled w) result.end) }
 {
     let run = extract_over(threads, extraction, restore, writer);
     let (writer, end) = end_stream(restore.sink.take(), extent_of(&run));

@@ -44,6 +44,7 @@ with_restoring app =
     value_rule (codes "tar") false ∷
     drives_rule (codes "drives") ∷
     memory_rule (codes "memory") ∷
+    flag_rule (codes "sync") ∷
     flag_rule (codes "quiet") ∷
     value_rule (codes "log") false ∷
     [])

@@ -28,6 +28,8 @@ use Rattle.br_types.specs.declared.wanted.Stops.{Stops}
 use Rattle.br_types.specs.declared.wanted.Stops.TheVariants as stops
 use Rattle.br_cli_common.specs.declared.options.Progress.{Progress}
 use Rattle.br_cli_common.specs.declared.options.Progress.TheVariants as progress
+use Rattle.br_cli_common.specs.declared.options.Syncs.{Syncs}
+use Rattle.br_cli_common.specs.declared.options.Syncs.TheVariants as syncs
 use Rattle.br_cli_common.specs.declared.options.Invocation.{Invocation}
 use Rattle.br_cli_common.specs.declared.options.Invocation.TheVariants as commands
 use Rattle.br_cli_common.specs.declared.options.Target.{Target}
@@ -43,17 +45,17 @@ pub data Goal : Type 0 where
 -- A command of the program. A script, and the memory for data. A script, a catalogue's file, the
 -- folder of the volumes and the memory. A bootstrap's file, the folder of the volumes, the target
 -- of the files, the number of drives, the memory, the further wishes, what the folder may hold,
--- whether progress is shown, and the file of a log, if there is one. A catalogue's file, the folder
--- of the volumes, client, file set and moment, the target of the files, the number of drives, the
--- memory, whether progress is shown, and the file of a log, if there is one. A bootstrap's file,
--- the folder of the volumes, what is done with checksums, and the memory. A catalogue's file;
--- client, file set and moment of jobs, each if it is given; and the zones in which moments are
--- shown. A catalogue's file. A number. All numbers.
+-- whether files are synced, whether progress is shown, and the file of a log, if there is one. A
+-- catalogue's file, the folder of the volumes, client, file set and moment, the target of the files,
+-- the number of drives, the memory, whether files are synced, whether progress is shown, and the
+-- file of a log, if there is one. A bootstrap's file, the folder of the volumes, what is done with
+-- checksums, and the memory. A catalogue's file; client, file set and moment of jobs, each if it is
+-- given; and the zones in which moments are shown. A catalogue's file. A number. All numbers.
 pub data Asked : Type 0 where
   Serve : ℕ → Asked
   ServeFiles : Text → Text → ℕ → Asked
-  Extract : Text → Text → Goal → ℕ → ℕ → Wanted → Start → Progress → Option Text → Asked
-  Console : Text → Text → Text → Text → Text → Goal → ℕ → ℕ → Progress → Option Text → Asked
+  Extract : Text → Text → Goal → ℕ → ℕ → Wanted → Start → Syncs → Progress → Option Text → Asked
+  Console : Text → Text → Text → Text → Text → Goal → ℕ → ℕ → Syncs → Progress → Option Text → Asked
   Check : Text → Text → Checksums → ℕ → Asked
   Jobs : Text → Option Text → Option Text → Option Text → Clock → Asked
   Migrate : Text → Asked
@@ -75,9 +77,10 @@ text_of value = option_map (λ s. s.now) value
 abbrev pub asked : Invocation → Asked
 asked (commands.Serve memory) = Serve memory
 asked (commands.ServeFiles o) = ServeFiles o.db.now o.volumes.now o.memory
-asked (commands.Extract o) = Extract o.bsr.now o.volumes.now (target o.target) o.drives o.memory o.wanted o.start o.progress (text_of o.log)
+asked (commands.Extract o) =
+    Extract o.bsr.now o.volumes.now (target o.target) o.drives o.memory o.wanted o.start o.syncs o.progress (text_of o.log)
 asked (commands.Console o) =
-    Console o.db.now o.volumes.now o.client.now o.fileset.now o.before.now (target o.target) o.drives o.memory o.progress (text_of o.log)
+    Console o.db.now o.volumes.now o.client.now o.fileset.now o.before.now (target o.target) o.drives o.memory o.syncs o.progress (text_of o.log)
 asked (commands.Check o) = Check o.bsr.now o.volumes.now o.checksums o.memory
 asked (commands.Jobs o) = Jobs o.db.now (text_of o.client) (text_of o.fileset) (text_of o.before) o.clock
 asked (commands.Migrate db) = Migrate db.now
@@ -156,6 +159,14 @@ stops_asked rows = stops_by (is_given (codes "keep-going") rows)
 abbrev pub wanted_asked : List Row → Wanted
 wanted_asked rows = record { copies = copies_asked rows; gaps = gaps_asked rows; stops = stops_asked rows }
 
+-- whether the files of a delivery are synced: with `--sync`
+abbrev pub syncs_by : Bool → Syncs
+syncs_by is_synced = if is_synced then syncs.Each else syncs.Never
+
+-- the same by the values that were found for the options
+unfoldable pub syncs_asked : List Row → Syncs
+syncs_asked rows = syncs_by (is_given (codes "sync") rows)
+
 -- whether a terminal shows the progress of a restore: unless `--quiet` is given
 abbrev pub progress_by : Bool → Progress
 progress_by is_quiet = if is_quiet then progress.Quiet else progress.Shown
@@ -208,7 +219,7 @@ extract_asked rows =
     option_and_then (λ goal.
     option_and_then (λ drives.
     option_and_then (λ memory.
-    option_map (λ start. Extract bsr volumes goal drives memory (wanted_asked rows) start (progress_asked rows) (log_asked rows))
+    option_map (λ start. Extract bsr volumes goal drives memory (wanted_asked rows) start (syncs_asked rows) (progress_asked rows) (log_asked rows))
     (start_for goal (start_asked rows)))
     (memory_asked rows))
     (drives_asked rows))
@@ -226,7 +237,7 @@ console_asked rows =
     option_and_then (λ before.
     option_and_then (λ goal.
     option_and_then (λ drives.
-    option_map (λ memory. Console db volumes client fileset before goal drives memory (progress_asked rows) (log_asked rows)) (memory_asked rows))
+    option_map (λ memory. Console db volumes client fileset before goal drives memory (syncs_asked rows) (progress_asked rows) (log_asked rows)) (memory_asked rows))
     (drives_asked rows))
     (target_asked rows))
     (first_of (codes "before") rows))

@@ -42,7 +42,7 @@ const MEMORY: OptionRow = OptionRow {
 };
 
 /// The options of every restore.
-const RESTORING: [OptionRow; 6] = [
+const RESTORING: [OptionRow; 7] = [
     OptionRow {
         name: "into",
         value: "DIR",
@@ -62,6 +62,12 @@ const RESTORING: [OptionRow; 6] = [
         help: "The number of drives that read the volumes at once, 1 to 16",
     },
     MEMORY,
+    OptionRow {
+        name: "sync",
+        value: "",
+        takes: ValueKind::Nothing,
+        help: "Syncs each file and folder, so that a loss of power loses none that was written",
+    },
     OptionRow {
         name: "quiet",
         value: "",

@@ -6,6 +6,7 @@ ghost use Rattle.br_cli_args.specs.ClapCommands.{program_app};
 ghost use Rattle.br_cli_common.specs.Options.{AreFew, HasDrives};
 ghost use Rattle.br_cli_args.specs.Words.{copies_asked, copies_by, gaps_asked, gaps_by, is_given, wanted_asked};
 ghost use Rattle.br_cli_args.specs.Words.{checksums_asked, checksums_by, progress_asked, progress_by, stops_asked, stops_by};
+ghost use Rattle.br_cli_args.specs.Words.{syncs_asked, syncs_by};
 ghost use Rattle.br_cli_args.specs.Words.{clock_asked, clock_by, start_asked, start_by, start_for};
 ghost use Rattle.br_cli_args.specs.Words.{is_no_size, memory_asked};
 ghost use Rattle.br_cli_args.specs.Words.{AsksFor, MissesBy, asked, asked_by, words_asked, words_fault, words_kind};
@@ -17,7 +18,7 @@ use crate::byte_size::read_size;
 use crate::command_table::program;
 use br_cli_common::{
     CheckOptions, Checksums, Clock, ConsoleOptions, ExtractOptions, Invocation, JobsOptions,
-    Progress, ServeOptions, Target,
+    Progress, ServeOptions, Syncs, Target,
 };
 use br_types::{Copies, Gaps, Start, Stops, Wanted};
 use clap::error::ErrorKind;
@@ -196,6 +197,21 @@ fn wanted_of(found: &ArgMatches<'_>) -> Wanted
     }
 }
 
+/// Returns whether the files of a delivery are synced; `--sync` decides.
+fn syncs_by(is_synced: bool) -> Syncs
+    ensures { result ≡ syncs_by is_synced }
+{
+    if is_synced { Syncs::Each } else { Syncs::Never }
+}
+
+/// Returns whether the files of a delivery are synced.
+#[tactic(auto, unfolding(crate::specs::Words::syncs_asked))]
+fn syncs_of(found: &ArgMatches<'_>) -> Syncs
+    ensures { result ≡ syncs_asked (rows_of (found_of found.now)) }
+{
+    syncs_by(is_found(found, "sync"))
+}
+
 /// Returns true if a terminal shows the progress of the restore; `--quiet` decides.
 fn progress_by(is_quiet: bool) -> Progress
     ensures { result ≡ progress_by is_quiet }
@@ -281,6 +297,7 @@ fn extract_found<'a>(found: &ArgMatches<'a>) -> Option<Invocation<'a>>
         memory: memory_of(found)?,
         wanted: wanted_of(found),
         start: start_for(target, start_of(found))?,
+        syncs: syncs_of(found),
         progress: progress_of(found),
         log: value_of(found, "log"),
     }))
@@ -301,6 +318,7 @@ fn console_found<'a>(found: &ArgMatches<'a>) -> Option<Invocation<'a>>
         target: target_of(found)?,
         drives: drives_of(found)?,
         memory: memory_of(found)?,
+        syncs: syncs_of(found),
         progress: progress_of(found),
         log: value_of(found, "log"),
     }))
@@ -516,7 +534,7 @@ fn read_by<'a>(command: &mut Command<'a>, words: &'a [String]) -> Result<Invocat
 /// NAME --fileset NAME --before MOMENT`, `check --bsr FILE --volumes DIR [--checksums]`, `jobs --db
 /// FILE [--client NAME] [--fileset NAME] [--before MOMENT] [--local]`, `migrate --db FILE`,
 /// `explain [N]` and `serve`. The first two also take `--into DIR` or `--tar FILE`, `--drives N`,
-/// `--quiet` and `--log FILE`. The first takes `--newest`, `--complete`, `--keep-going` and, with
+/// `--sync`, `--quiet` and `--log FILE`. The first takes `--newest`, `--complete`, `--keep-going` and, with
 /// `--into`, `--resume`. The last takes `--db FILE` and `--volumes DIR`, both or neither. All that
 /// restore, and `check`, take `--memory SIZE`: bytes, or a number with K, M or G. No command is the
 /// same as `serve`.

@@ -22,6 +22,15 @@ pub enum Progress {
     Quiet,
 }
 
+/// Whether the files and folders of a delivery are made durable one by one.
+#[derive(Clone, Copy)]
+pub enum Syncs {
+    /// The system writes them to the disk in its own time.
+    Never,
+    /// Each is synced once it is written.
+    Each,
+}
+
 /// The options of `extract`.
 #[derive(Clone, Copy)]
 pub struct ExtractOptions<'a> {
@@ -37,6 +46,8 @@ pub struct ExtractOptions<'a> {
     pub wanted: Wanted,
     /// What the target folder may hold. Other targets are new.
     pub start: Start,
+    /// Whether what goes into a folder is synced. A tar stream in a file is, at its end.
+    pub syncs: Syncs,
     pub progress: Progress,
     /// The file that a log of the restore is appended to, if there is one.
     pub log: Option<&'a str>,
@@ -79,6 +90,8 @@ pub struct ConsoleOptions<'a> {
     pub drives: usize,
     /// The number of bytes of data that are held in memory.
     pub memory: u64,
+    /// Whether what goes into a folder is synced. A tar stream in a file is, at its end.
+    pub syncs: Syncs,
     pub progress: Progress,
     /// The file that a log of the session is appended to, if there is one.
     pub log: Option<&'a str>,

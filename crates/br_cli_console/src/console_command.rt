@@ -20,7 +20,7 @@ use crate::jobs_command::jobs_in;
 use br_cli_common::{CLEAN, ConsoleOptions, Prompted, REFUSED, Target, with_prompt};
 use br_cli_progress::{Gauge, WatchedSink, WatchedWriter};
 use br_cli_target::{
-    BAD_STREAM, Channel, Ending, PutExtent, ResumingSink, Streamed, TarFault, ToldOutcomes,
+    BAD_STREAM, Channel, Ending, PutExtent, ResumingSink, Settle, Streamed, TarFault, ToldOutcomes,
     add_tar_end, end_stream, folder_of, gauge_of, lacks_volumes, log_fault, refuse_log,
     refuse_place, restore_over, resuming_over, say_nowhere, say_stop, say_volumes, tar_into,
     tar_onto, tell_outcomes, with_watched_drives, with_watched_sink,
@@ -283,7 +283,7 @@ pub fn set_up_console<'r, C: Catalogue>(
     ensures volumes { IfOk result (λ setup. AreOver given.now.volumes.now setup.1.drives.items) }
 {
     let request = request_of(rt.alloc(), given)?;
-    let sink = resuming_over(rt, Start::Empty, folder_of(given.target))?;
+    let sink = resuming_over(rt, Start::Empty, given.syncs, folder_of(given.target))?;
     set_up_over(rt, catalogue, given, request, sink)
 }
 
@@ -328,7 +328,7 @@ fn extent_by(end: &End) -> PutExtent
 }
 
 /// Runs a session whose sink writes a tar stream, and ends the stream if all files were put.
-fn console_stream<R: BufRead + Drop, D: Drive + Send, W: Flush + Drop, T: Flush + Drop>(
+fn console_stream<R: BufRead + Drop, D: Drive + Send, W: Flush + Drop, T: Settle + Drop>(
     threads: &(impl Threads + Wait + Sync),
     asked: &JobSelection<'_>,
     restore: &mut Restore<D, WatchedSink<'_, '_, TarSink<T>>>,

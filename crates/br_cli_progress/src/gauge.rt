@@ -157,8 +157,12 @@ impl<'r> Gauge<'r> {
         self.rt.stderr().write_all(text)
     }
 
-    /// Prints a line to standard error that the log could not be written, if it could not.
-    pub(crate) fn tell_torn(&self) -> io::Result<()> {
+    /// Ends the log: makes it durable, and prints a line to standard error that it could not be
+    /// written, if it could not.
+    pub(crate) fn end_log(&self) -> io::Result<()> {
+        if let Some(log) = &self.log {
+            log.settle();
+        }
         match &self.log {
             Some(log) if log.is_torn() => {
                 eprintln!(self.rt; "brestore: the log could not be written, so it is not whole")

@@ -158,6 +158,6 @@ impl<'r> Gauge<'r> {
             self.show(&count)?;
         }
         self.log_lines(Ok(count));
-        self.tell_torn()
+        self.end_log()
     }
 }

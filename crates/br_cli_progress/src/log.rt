@@ -1,11 +1,11 @@
 //! A file to which lines are appended while a restore runs.
 
 use std::fs::{File, OpenOptions};
-use std::io::{self, Write};
+use std::io::{self, ErrorKind, Write};
 use std::sync::atomic::{AtomicBool, Ordering};
 
 /// A file to which lines are appended while a restore runs. Each part is written at once, so that
-/// it is in the file even if the program is killed afterwards.
+/// it is in the file even if the program is killed afterwards. At the end the file is synced.
 #[derive(Drop)]
 pub struct Log {
     file: File,
@@ -30,6 +30,15 @@ impl Log {
         let mut file = &self.file;
         if file.write_all(lines).is_err() {
             self.tear();
+        }
+    }
+
+    /// Makes durable what was appended. A log that can't be synced is torn. One that is no file, such
+    /// as a pipe, has nothing to sync.
+    pub(crate) fn settle(&self) {
+        match self.file.sync_data() {
+            Err(error) if error.kind() != ErrorKind::InvalidInput => self.tear(),
+            _ => {}
         }
     }
 

@@ -15,6 +15,7 @@ mod narrowed_groups;
 mod origin;
 mod own_hits;
 mod searched_hits;
+mod settling;
 mod target_folder;
 mod target_tar;
 mod told_outcomes;
@@ -26,9 +27,10 @@ pub use advice_lines::{push_absent, push_older, push_origin};
 pub use ending::{BAD_STREAM, Ending};
 pub use host_restore::{restore_over, with_watched_drives, with_watched_sink};
 pub use origin::{Origin, origins};
+pub use settling::{Channel, Settle};
 pub use target_folder::{LeavingSink, ResumingSink, folder_of, leaving_over, resuming_over};
 pub use target_tar::{
-    Channel, PutExtent, Streamed, TarEnd, TarFault, add_tar_end, end_stream, tar_into, tar_onto,
+    PutExtent, Streamed, TarEnd, TarFault, add_tar_end, end_stream, tar_into, tar_onto,
 };
 pub use told_outcomes::{ToldOutcomes, advise, say_volumes, tell_outcomes};
 pub use told_target::{

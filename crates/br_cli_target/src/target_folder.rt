@@ -2,7 +2,7 @@
 ghost use Rattle.std.specs.Prelude.{◌≡◌, [], option_map, IfOk, IfSome};
 ghost use Rattle.br_cli_target.specs.AskedTarget.{folder_asked};
 
-use br_cli_common::Target;
+use br_cli_common::{Syncs, Target};
 use br_cli_progress::{Gauge, WatchedSink};
 use br_fs::HostDisk;
 use br_sink::Leaving;
@@ -26,11 +26,20 @@ pub fn folder_of(target: Target<'_>) -> Option<&str>
     }
 }
 
+/// Returns the disk of the system, which syncs each file and folder that it makes, or none.
+fn maker_of(rt: &HostRuntime, syncs: Syncs) -> HostDisk<&HostRuntime> {
+    match syncs {
+        Syncs::Never => HostDisk::new(rt.alloc(), rt),
+        Syncs::Each => HostDisk::syncing(rt.alloc(), rt),
+    }
+}
+
 /// Returns the sink over the folder to deliver into, if there is one. The folder is empty, unless the restore
 /// is resumed.
 pub fn resuming_over<'r>(
     rt: &'r HostRuntime,
     start: Start,
+    syncs: Syncs,
     into: Option<&str>,
 ) -> Result<Option<ResumingSink<'r>>, FolderFault>
     ensures asked { IfOk result (λ sink. option_map (λ s. s.folder.path) sink ≡ option_map (λ f. f.now) into.entry) }
@@ -39,7 +48,7 @@ pub fn resuming_over<'r>(
     let Some(path) = into else {
         return Ok(None);
     };
-    let maker = HostDisk::new(rt.alloc(), rt);
+    let maker = maker_of(rt, syncs);
     Ok(Some(Resuming::new(rt.alloc(), maker, path, start)?))
 }
 
@@ -50,6 +59,7 @@ pub fn leaving_over<'g, 'r>(
     gauge: &'g Gauge<'r>,
     stops: Stops,
     start: Start,
+    syncs: Syncs,
     into: Option<&str>,
 ) -> Result<Option<LeavingSink<'g, 'r>>, FolderFault>
     ensures asked { IfOk result (λ sink. option_map (λ s. s.inner.inner.folder.path) sink ≡ option_map (λ f. f.now) into.entry) }
@@ -57,7 +67,7 @@ pub fn leaving_over<'g, 'r>(
     ensures stops { IfOk result (λ sink. IfSome sink (λ s. s.stops ≡ stops)) }
     ensures taken { IfOk result (λ sink. IfSome sink (λ s. s.taken ≡ [])) }
 {
-    match resuming_over(rt, start, into)? {
+    match resuming_over(rt, start, syncs, into)? {
         None => Ok(None),
         Some(sink) => {
             let watched = WatchedSink::new(sink, gauge);

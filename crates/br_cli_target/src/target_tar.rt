@@ -1,5 +1,5 @@
 //! The tar stream that restored files go into, and its end.
-ghost use Rattle.std.specs.Prelude.{◌≡◌, ◌++◌, Bool, true, false, option_map, IfOk, IfSome, OnErr, OnOk};
+ghost use Rattle.std.specs.Prelude.{◌≡◌, ◌++◌, option_map, IfOk, IfSome, OnErr, OnOk};
 ghost use Rattle.std.specs.Io.KnownBytes.{Keeps};
 ghost use Rattle.br_fs.specs.Making.{IsFree, MakesFile};
 ghost use Rattle.br_sink_tar.specs.Stream.{told};
@@ -8,16 +8,17 @@ ghost use Rattle.br_cli_target.specs.TarEnding.{left_out_text, not_flushed, tar_
 ghost use Rattle.br_cli_target.specs.declared.target_tar.TarEnd.TheVariants.{Cut};
 
 use crate::ending::Ending;
+use crate::settling::Settle;
 use br_cli_common::REFUSED;
 use br_cli_progress::WatchedSink;
-use br_engine::{Flush, push_refused_line};
+use br_engine::push_refused_line;
 use br_fs::{DiskFault, FileMaker, HostDisk};
 use br_sink::SinkFault;
 use br_sink_tar::TarSink;
 use br_types::push_number;
 use std::alloc::{AllocError, Global};
 use std::fs::File;
-use std::io::{BufWriter, Printer, Stderr, Write};
+use std::io::{BufWriter, Write};
 use thiserror::Error;
 
 /// Why there is no file to write a tar stream into.
@@ -39,23 +40,6 @@ impl TarFault {
             TarFault::NoFile => 81,
         }
     }
-}
-
-/// A writer, and whether it is standard output.
-pub trait Channel: Write {
-    ghost is_output: { Bool };
-}
-
-impl Channel for File {
-    ghost is_output = { false };
-}
-
-impl Channel for Printer<'_, HostRuntime> {
-    ghost is_output = { true };
-}
-
-impl Channel for Stderr {
-    ghost is_output = { false };
 }
 
 /// Makes the file at a path, at which nothing may be.
@@ -134,7 +118,7 @@ fn finished<W: Write + Drop>(sink: TarSink<W>) -> (W, TarEnd)
     }
 }
 
-/// Returns the state of a stream that could not be flushed.
+/// Returns the state of a stream that could not be flushed or synced.
 fn not_flushed(end: TarEnd) -> TarEnd
     ensures { result ≡ not_flushed end }
 {
@@ -145,46 +129,49 @@ fn not_flushed(end: TarEnd) -> TarEnd
     }
 }
 
-/// Flushes the writer of a stream, and returns the state of the stream.
+/// Flushes and syncs the writer of a stream, and returns the state of the stream.
 #[tactic(auto, using(crate::proofs::TarLaws::shown_anyway))]
-fn flushed<W: Flush>(writer: &mut W, end: TarEnd) -> TarEnd
+fn settled<W: Settle>(writer: &mut W, end: TarEnd) -> TarEnd
     ensures bytes { Keeps (W.contents writer.old) (W.contents writer.new) }
     ensures end { IsFlushed end result }
     ensures shown { IsShown (W.is_flushed writer.new) result }
+    ensures settled { IsShown (W.is_settled writer.new) result }
 {
-    match writer.flush_all() {
+    match writer.settle() {
         Ok(()) => end,
         Err(_) => not_flushed(end),
     }
 }
 
-/// Writes the end of a stream and flushes its writer.
-fn closed<W: Flush + Drop>(sink: TarSink<W>) -> (W, TarEnd)
+/// Writes the end of a stream, and flushes and syncs its writer.
+fn closed<W: Settle + Drop>(sink: TarSink<W>) -> (W, TarEnd)
     ensures held { HoldsBy (told sink) result.1 (W.contents result.0) }
     ensures ends { IsClosed sink.left_out result.1 }
     ensures shown { IsShown (W.is_flushed result.0) result.1 }
+    ensures settled { IsShown (W.is_settled result.0) result.1 }
 {
     let (mut writer, written) = finished(sink);
-    let end = flushed(&mut writer, written);
+    let end = settled(&mut writer, written);
     (writer, end)
 }
 
-/// Flushes the writer of a stream that is not finished.
-fn cut_off<W: Flush + Drop>(sink: TarSink<W>) -> (W, TarEnd)
+/// Flushes and syncs the writer of a stream that is not finished.
+fn cut_off<W: Settle + Drop>(sink: TarSink<W>) -> (W, TarEnd)
     ensures held { HoldsBy (told sink) result.1 (W.contents result.0) }
     ensures ends { result.1 ≡ Cut }
 {
     let mut writer = sink.into_writer();
-    let end = flushed(&mut writer, TarEnd::Cut);
+    let end = settled(&mut writer, TarEnd::Cut);
     (writer, end)
 }
 
-/// Ends the stream of a sink if all files were put, and flushes its writer.
-fn end_of<W: Flush + Drop>(sink: TarSink<W>, extent: PutExtent) -> (W, TarEnd)
+/// Ends the stream of a sink if all files were put, and flushes and syncs its writer.
+fn end_of<W: Settle + Drop>(sink: TarSink<W>, extent: PutExtent) -> (W, TarEnd)
     ensures held { HoldsBy (told sink) result.1 (W.contents result.0) }
     ensures ends { EndsBy extent sink.left_out result.1 }
     ensures ended { IsEnded extent result.1 }
     ensures shown { IsShown (W.is_flushed result.0) result.1 }
+    ensures settled { IsShown (W.is_settled result.0) result.1 }
 {
     match extent {
         PutExtent::All => closed(sink),
@@ -192,15 +179,17 @@ fn end_of<W: Flush + Drop>(sink: TarSink<W>, extent: PutExtent) -> (W, TarEnd)
     }
 }
 
-/// Ends the stream of a watched sink, if there is one and all files were put, and flushes its
-/// writer. Returns this writer, and the state of the stream.
-pub fn end_stream<W: Flush + Drop>(
+/// Ends the stream of a watched sink, if there is one and all files were put, and flushes and syncs
+/// its writer. Returns this writer, and the state of the stream. A failed sync is as a failed
+/// write.
+pub fn end_stream<W: Settle + Drop>(
     sink: Option<WatchedSink<'_, '_, TarSink<W>>>,
     extent: PutExtent,
 ) -> (Option<W>, TarEnd)
     ensures held { StreamHolds extent (option_map told_inside sink.entry) result.1 (option_map W.contents result.0) }
     ensures ends { IfSome sink.entry (λ s. EndsBy extent s.inner.left_out result.1) }
     ensures shown { IfSome result.0 (λ w. IsShown (W.is_flushed w) result.1) }
+    ensures settled { IfSome result.0 (λ w. IsShown (W.is_settled w) result.1) }
 {
     match sink {
         None => (None, TarEnd::Cut),
