@@ -249,14 +249,15 @@ def stored_jobs(place, jobs):
     return count
 
 
-def wrong_volumes(found, whole, vouched):
+def wrong_volumes(found, whole, vouched, are_fronts=True):
     """Returns the volumes that are no first part of the complete ones, or end before the last byte
-    of a stored job."""
-    fronts = [name for name, data in found.items() if not whole.get(name, b"").startswith(data)]
+    of a stored job. Without `are_fronts` the bytes after that one are not compared."""
+    compared = found if are_fronts else {name: data[: vouched.get(name, 0)] for name, data in found.items()}
+    fronts = [name for name, data in compared.items() if not whole.get(name, b"").startswith(data)]
     return fronts + [name for name, length in vouched.items() if len(found.get(name, b"")) < length]
 
 
-def after_kill(given, place, whole, lines):
+def after_kill(given, place, whole, lines, are_fronts=True):
     """Compares what a killed run left. Returns the number of stored jobs, the number of volumes
     with bytes that no job vouches for, and what is wrong."""
     try:
@@ -268,7 +269,7 @@ def after_kill(given, place, whole, lines):
         wrong.append(f"{count} jobs are stored after {lines[-1:]}")
     found, jobs = volumes_of(place.volumes), whole.jobs[:count]
     vouched = vouched_by(jobs)
-    wrong += [f"volume {name}" for name in wrong_volumes(found, whole.volumes, vouched)]
+    wrong += [f"volume {name}" for name in wrong_volumes(found, whole.volumes, vouched, are_fronts)]
     wrong += empty_run(given, place, jobs)
     for job in jobs:
         answer = place.console(given.program, job["start"] + 1)
