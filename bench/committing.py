@@ -4,13 +4,16 @@
     bench/committing.py                    100 commits over a catalogue of a million file rows, then 1,000 commits, then snapshots
     bench/committing.py --program FILE     another program than crates/brestore/out/brestore
     bench/committing.py --bench FILE       another program than crates/br_bench/out/br_bench
+    bench/committing.py --before FILE      also beside an older program, on the disk of --folder
     bench/committing.py --rows N --commits N --files N --long N --snapshots N
 
 The first part copies a catalogue of a Full of `--rows` paths, which SQLite's own library made, has the program commit `--commits` jobs
 of `--files` files each, and then has Python's `sqlite3` insert the same rows into another copy, in one transaction for each job. A job's
 time is that between two lines `stored`. The second part commits `--long` such jobs to an empty catalogue and compares the last ones with
 the tenth. The third part has `br_bench` commit `--snapshots` such jobs in memory over `--rows` file rows, while two sessions take
-snapshots. The status is 1 if a program printed something else than it must, or the rows are not those that SQLite inserted.
+snapshots. With `--before` the program and an older one commit `--commits` such jobs to empty catalogues by turns; a commit is to take
+at most 1.5 times as long as the older one's. The status is 1 if a program printed something else than it must, or the rows are not those
+that SQLite inserted, and with `--strict` also if the target is missed.
 """
 
 import argparse
@@ -33,6 +36,8 @@ from loading import make
 
 # The number of files in a folder.
 FILES_IN_FOLDER = 100
+# How many times as long as the older program's a commit may take.
+TARGET = 1.5
 STAT = b"P0A Cat6a IGk B Po Po A Q BAA I BfV5Ch BfV5Ch BfV5Ch A"
 FIRST_JOB = 1000
 # The rows of a catalogue, in which the file rows of a job keep their order.
@@ -193,6 +198,23 @@ def beside_sqlite(options, folder):
     return is_same
 
 
+def beside_older(options, folder):
+    """Has an older program commit the same jobs by turns. Returns whether the target is met."""
+    script, found = os.path.join(folder, "turns"), {options.before: [], options.program: []}
+    written(script, options.commits, options.files)
+    for turn in range(options.repeats):
+        for program, times in found.items():
+            place = os.path.join(folder, f"turn {turn}")
+            os.makedirs(os.path.join(place, "volumes"))
+            moments, _ = commit(program, os.path.join(place, "catalogue"), os.path.join(place, "volumes"), script, options.commits)
+            times += steps(moments)
+            shutil.rmtree(place)
+    print(f"{options.repeats} times {options.commits} commits of {options.files} files each to an empty catalogue, by turns:")
+    older, newer = told("the older program", found[options.before]), told("brestore serve", found[options.program])
+    print(f"  {'':34} ratio {newer / older:.2f}, target {TARGET}")
+    return newer <= TARGET * older
+
+
 def in_proportion(options, folder):
     """Commits many jobs to an empty catalogue, and compares the last ones with the tenth."""
     script, volumes = os.path.join(folder, "long"), os.path.join(folder, "volumes")
@@ -233,10 +255,16 @@ def main():
     parser.add_argument("--long", type=int, default=1000)
     parser.add_argument("--bench", type=os.path.abspath, default=BENCH_PROGRAM, help="the program in memory (default: %(default)s)")
     parser.add_argument("--snapshots", type=int, default=100)
+    parser.add_argument("--before", type=os.path.abspath, help="an older program, which commits the same jobs")
+    parser.add_argument("--repeats", type=int, default=5, help="runs of each beside the older program (default: %(default)s)")
+    parser.add_argument("--folder", help="where catalogues and volumes are made (default: a temporary folder)")
+    parser.add_argument("--strict", action="store_true", help="status 1 also if the target is missed")
     options, is_right = parser.parse_args(), True
-    with tempfile.TemporaryDirectory() as folder:
+    with tempfile.TemporaryDirectory(dir=options.folder) as folder:
+        if options.before:
+            is_right = beside_older(options, folder) or not options.strict
         if options.commits:
-            is_right = beside_sqlite(options, folder)
+            is_right = beside_sqlite(options, folder) and is_right
         if options.long:
             in_proportion(options, folder)
     if options.snapshots:
