@@ -56,7 +56,7 @@ pub trait Settle: Flush {
         ensures settled { IfOk result (λ _. is_settled self.new) };
 }
 
-impl<C: Channel> Settle for BufWriter<C> {
+impl<C: Channel + Drop> Settle for BufWriter<C> {
     fn settle(&mut self) -> io::Result<()> {
         self.flush_all()?;
         self.get_mut().sync()
