@@ -61,10 +61,14 @@ impl<F: Files + Drop> HostDisk<F> {
         }
     }
 
-    /// Makes the names in the folder at the path durable.
+    /// Makes the names in the folder at the path durable. A file system that has no sync of folders,
+    /// such as that of a shared folder, is asked for none.
     fn sync_names(&self, folder: &str) -> Result<(), DiskFault> {
         let folder = to_read().open(&self.files, folder).map_err(fault_of)?;
-        folder.sync_all().map_err(fault_of)
+        match folder.sync_all() {
+            Err(error) if error.kind() != ErrorKind::InvalidInput => Err(fault_of(error)),
+            _ => Ok(()),
+        }
     }
 
     /// Opens the file at the path.

@@ -110,10 +110,10 @@ impl<C: JobStore, W: VolumeStore> Keeper<C, W> {
     /// - `DuplicateJob` if another job has the number, `DuplicateSession` if one has the session.
     /// - `BadRow` if a span would end after the address 2^63 - 2, or there would be 2^32 spans or
     ///   more.
-    /// - `RetiredVolume` if an append of this keeper to a volume of the places failed, or its sync,
-    ///   or the volume has another length than the vouched one.
-    /// - `Volume` if the store of volumes fails at one of them. At a length nothing is changed. At
-    ///   an append the blocks before it are on the volumes, and the first of its bytes may be. At a
+    /// - `RetiredVolume` if an append or a sync by this keeper failed at a volume of the places, or
+    ///   the volume has another length than the vouched one.
+    /// - `Volume` if the store fails at a volume of the places. At a length nothing is changed. At an
+    ///   append the blocks before it are on the volumes, and the first of its bytes may be. At a
     ///   sync all blocks are. The volume whose append or sync failed is retired.
     /// - `Store` if the catalogue fails. All blocks are appended and durable.
     /// - `StoredNotPublished` if memory runs out for the publishing. All blocks are appended and

@@ -149,8 +149,8 @@ fn open_if_found<D: Disk>(disk: &mut D, path: &str) -> Result<Option<D::File>, D
 }
 
 /// Returns the file at the path, if there is one: the file held open if it is this one, else one
-/// that is opened. What was written by a file that is open is synced by it, so that no error of
-/// the writing is lost.
+/// that is opened. What was written by a file that is open is synced by it, so that the system
+/// reports an error of the writing there.
 fn found<D: Disk>(
     disk: &mut D,
     held: Option<D::File>,
