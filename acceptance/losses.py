@@ -11,7 +11,7 @@ dropped, as a machine without power may do:
 - of any other file drawn ones of the writes and cuts, of a write also its last bytes alone;
 - names that were made, removed or changed in a folder since it was synced.
 
-Once everything is dropped, once nothing, and else what the dice say. Afterwards the catalogue has the first of the jobs, each whose
+In one loss of six all of it is dropped, in one nothing, and else what the dice say. Afterwards the catalogue has the first of the jobs, each whose
 `stored` line was printed among them. Each of them is restored whole, by the second reading of scripts. A run goes on from there. All this
 is what `serving.py` compares after a kill.
 

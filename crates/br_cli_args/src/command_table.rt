@@ -66,7 +66,7 @@ const RESTORING: [OptionRow; 7] = [
         name: "sync",
         value: "",
         takes: ValueKind::Nothing,
-        help: "Syncs each file and folder, so that a loss of power loses none that was written",
+        help: "Syncs the files and folders that it makes, so that they outlast a loss of power",
     },
     OptionRow {
         name: "quiet",

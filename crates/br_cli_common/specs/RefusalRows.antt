@@ -89,14 +89,14 @@ all_rows =
     (codes "The rows of a job contradict each other, or its spans pass their limits.")
     (codes "In a script, correct the job by the rules in docs/formats.md.") ∷
     row_with 43 (codes "RetiredVolume")
-    (codes "An append to the volume failed earlier, or its length is not the one in the catalogue.")
+    (codes "An append or sync of the volume failed earlier, or its length is not the catalogue's.")
     (codes "In a script, name another volume in `place`.") ∷
     row_with 44 (codes "VolumeFault")
-    (codes "Bytes could not be appended to a volume, or its length could not be read.")
-    (codes "In a script, free memory and run it again; in a folder, check space and permissions.") ∷
+    (codes "Bytes could not be appended to a volume or synced, or its length not read.")
+    (codes "Free memory, or check space and permissions; then name another volume in `place`.") ∷
     row_with 45 (codes "StoreFault")
     (codes "The catalogue is missing, in use, cannot be opened, or is no sound database with the tables of this program.")
-    (codes "Check `--db`. If a `-wal` lies beside the file, let `serve` open it once, in a folder that can be written. If the file has a second name (a hard link), copy it. Else try another copy, or restore by a bootstrap with `extract`; a catalogue that Bacula made cannot be used.") ∷
+    (codes "Check `--db`. If a `-wal` lies beside the file, let `serve` open it once, in a folder that can be written. If the file has a second name (a hard link), copy it. Else try another copy, or restore by a bootstrap with `extract`; import a catalogue that Bacula made.") ∷
     row_with 46 (codes "StoredNotPublished")
     (codes "The job is in the catalogue, but restores do not see it yet.")
     (codes "In a script, free memory and commit again, which publishes the job first.") ∷

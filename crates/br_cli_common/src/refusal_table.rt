@@ -143,20 +143,20 @@ pub const REFUSALS: [Refusal; 55] = [
     Refusal {
         number: 43,
         name: "RetiredVolume",
-        meaning: "An append to the volume failed earlier, or its length is not the one in the catalogue.",
+        meaning: "An append or sync of the volume failed earlier, or its length is not the catalogue's.",
         next: "In a script, name another volume in `place`.",
     },
     Refusal {
         number: 44,
         name: "VolumeFault",
-        meaning: "Bytes could not be appended to a volume, or its length could not be read.",
-        next: "In a script, free memory and run it again; in a folder, check space and permissions.",
+        meaning: "Bytes could not be appended to a volume or synced, or its length not read.",
+        next: "Free memory, or check space and permissions; then name another volume in `place`.",
     },
     Refusal {
         number: 45,
         name: "StoreFault",
         meaning: "The catalogue is missing, in use, cannot be opened, or is no sound database with the tables of this program.",
-        next: "Check `--db`. If a `-wal` lies beside the file, let `serve` open it once, in a folder that can be written. If the file has a second name (a hard link), copy it. Else try another copy, or restore by a bootstrap with `extract`; a catalogue that Bacula made cannot be used.",
+        next: "Check `--db`. If a `-wal` lies beside the file, let `serve` open it once, in a folder that can be written. If the file has a second name (a hard link), copy it. Else try another copy, or restore by a bootstrap with `extract`; import a catalogue that Bacula made.",
     },
     Refusal {
         number: 46,

@@ -10,8 +10,8 @@ use Rattle.br_match.specs.Fault.{cause}
 use Rattle.br_match.specs.declared.hit.Found.{Found}
 use Rattle.br_match.specs.declared.fault.PieceFault.{PieceFault}
 
--- the piece has groups, and hits on the volumes, and each of its groups has addresses, the last of
--- them inside the volume
+-- The piece has groups, no block that it reads on the volumes is refused, and each of its groups has
+-- addresses, the last of them inside the volume.
 pub record IsEnclosed (volumes : List Volume) (piece : Piece) : Type 0 where
   pub some : 0 < length piece.groups
   pub hits : List Hit
