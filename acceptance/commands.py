@@ -305,6 +305,30 @@ SCRIPTS = [
 ]
 
 
+WARNED = b"purged 1: no files of this job are in the catalogue, so older copies may come back; its bootstrap restores them\n"
+CHOICE = ["--client", "mars", "--fileset", "home", "--before", "2106-02-07 06:28:18"]
+LISTED = b" 1 F T 2106-02-07 06:28:17 mars home %d %d V\n"
+
+
+def purged(checks, folder):
+    """Lists and restores jobs whose file rows are gone, beside those that have some."""
+    place = Place(folder, PLAIN)
+    db = place.catalogue()
+    checks.check("a job with files is marked", run(checks, ["jobs", "--db", db, *CHOICE]), (0, b"*" + LISTED % (2, 10), b""))
+    subprocess.run(["sqlite3", db, "UPDATE File SET FileIndex = 0"], check=True)
+    checks.check("a job that deletes", run(checks, ["jobs", "--db", db, *CHOICE]), (0, b"*" + LISTED % (0, 0), b""))
+    subprocess.run(["sqlite3", db, "DELETE FROM File"], check=True)
+    checks.check("a purged job is marked", run(checks, ["jobs", "--db", db, *CHOICE]), (1, b"*" + LISTED % (0, 0), WARNED))
+    checks.check("a purged job is listed", run(checks, ["jobs", "--db", db]), (0, b"-" + LISTED % (0, 0), b""))
+    checks.check("a session over a purged job", run(checks, console_words(place, db), b"quit\n"), (1, b"", WARNED))
+    found = run(checks, console_words(place, db, "--tar", place.folder / "x.tar"), b"count\nquit\n")
+    checks.check("a session for a stream", (found, tar_of(place.folder / "x.tar")), ((1, b"0 paths, 0 marked\n", WARNED), EMPTY_TAR))
+    found = run(checks, console_words(place, db, client="venus"), b"quit\n")
+    checks.check("a purged job that is not chosen", found, (1, b"", b"refused 53\n"))
+    subprocess.run(["sqlite3", db, "DELETE FROM JobMedia"], check=True)
+    checks.check("a job that wrote nothing", run(checks, ["jobs", "--db", db, *CHOICE]), (0, b"*" + (LISTED % (0, 0)).replace(b"V", b"-"), b""))
+
+
 def scripts(checks, folder):
     for name, lines, status, printed, volumes in SCRIPTS:
         place = Place(folder, PLAIN)
@@ -353,7 +377,7 @@ def main():
     parser.add_argument("--program", type=os.path.abspath, default=PROGRAM, help="the program (default: %(default)s)")
     checks = Checks(parser.parse_args().program)
     with tempfile.TemporaryDirectory() as folder:
-        for part in (extracts, streams, sessions, scripts, many, full):
+        for part in (extracts, streams, sessions, purged, scripts, many, full):
             part(checks, folder)
     return 1 if checks.failed else 0
 

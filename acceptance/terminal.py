@@ -209,7 +209,7 @@ def asks_again(checks, folder):
         subprocess.run(["sqlite3", db], stdin=text, check=True)
     subprocess.run(["sqlite3", db, "DELETE FROM File WHERE JobId = 3"], check=True)
     chosen = [*CHOSEN[:2], "chosen: * 3 I T 2026-11-21 23:15:45 peer-fd Peer 0 0 Vol-0001"]
-    chosen.append("  This job has no files in the catalogue, so none can be marked: use its bootstrap.")
+    chosen.append("purged 3: no files of this job are in the catalogue, so older copies may come back; its bootstrap restores them")
     lines = typed("", "mark /tmp", "quit")
     status, shown, printed = play(checks.program, console_words(db, folder)[:-2], lines, folder)
     wanted = [*chosen, *GREETING, PROMPT + words(55)[0], words(55)[1], PROMPT + words(57)[0], words(57)[1], PROMPT + QUIT]

@@ -1,5 +1,5 @@
 -- The end of a run of the console.
-use Rattle.std.specs.Prelude.{ℕ, List, [], Result, Ok, Err}
+use Rattle.std.specs.Prelude.{ℕ, Bool, true, false, List, [], Result, Ok, Err}
 use Rattle.br_engine.specs.Outputs.{end_text}
 use Rattle.br_engine.specs.declared.restore_end.RestoreEnd.TheVariants.{AllFiles, SomeFaults, Stopped}
 use Rattle.br_console.specs.ConsoleFault.{fault_text}
@@ -46,10 +46,15 @@ abbrev pub end_line : End → List ℕ
 end_line Quit = []
 end_line (Done end) = end_text end
 
+-- that of the run; 1 after a warning, if nothing else was wrong
+abbrev pub done_status : Bool → ConsoleRun → ℕ
+done_status true run = 1
+done_status false run = status_by run.lines run.end
+
 -- 3 if reading or writing failed or the lines have no end, 1 for any other fault
-abbrev pub run_status : Result ConsoleRun ConsoleFault → ℕ
-run_status (Ok run) = status_by run.lines run.end
-run_status (Err fault) = fault_status fault
+abbrev pub run_status : Bool → Result ConsoleRun ConsoleFault → ℕ
+run_status warned (Ok run) = done_status warned run
+run_status warned (Err fault) = fault_status fault
 
 -- the line of the refusal or of the stop, if there is one
 abbrev pub run_refusal : Result ConsoleRun ConsoleFault → List ℕ

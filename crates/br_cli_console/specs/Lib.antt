@@ -1,4 +1,5 @@
 pub mod AskedJobs
+pub mod ChosenJobs
 pub mod ConsoleCommandEnding
 pub mod ConsoleStarting
 pub mod ConsoleTasks

@@ -1,41 +1,18 @@
-//! The chosen jobs, as a terminal shows them before a session.
+//! The chosen jobs, as they are told before a session.
+ghost use Rattle.std.specs.Prelude.{◌≡◌, map, Ok, IfOk};
+ghost use Rattle.br_model.specs.Choice.{choose};
+ghost use Rattle.br_cli_console.specs.ChosenJobs.{has_warning};
 
+use br_choose::ChooseFault;
 use br_cli_common::is_shown;
-use br_jobs::{Filter, Zones, list_jobs};
+use br_history::JobRows;
+use br_jobs::{Filter, Zones, list_jobs, purged_warnings};
 use br_plan::JobSelection;
-use std::{io, str};
+use std::io::{self, ErrorKind};
+use std::str;
 
-/// The fields of a line of a job: the number of its files and its volumes.
-const FILES: usize = 8;
-
-const VOLUMES: usize = 10;
-
-/// Returns true if a field of a line is this word.
-fn has_word(line: &[u8], field: usize, word: &[u8]) -> bool {
-    line.split(|byte| *byte == b' ').nth(field) == Some(word)
-}
-
-/// Prints the line of a chosen job, and a warning if the job wrote to volumes and has no files.
-fn tell_job(rt: &HostRuntime, line: &[u8]) -> io::Result<()> {
-    let shown = String::from_utf8_lossy(rt.alloc(), line)?;
-    eprintln!(rt; "chosen: {shown}")?;
-    if has_word(line, FILES, b"0") && !has_word(line, VOLUMES, b"-") {
-        eprintln!(rt;
-            "  This job has no files in the catalogue, so none can be marked: use its bootstrap."
-        )?;
-    }
-    Ok(())
-}
-
-/// Prints the chosen jobs to standard error, if that is a terminal, in the form of the command `jobs`.
-///
-/// # Errors
-///
-/// If memory ran out, or standard error failed.
-pub fn tell_chosen(rt: &HostRuntime, asked: &JobSelection<'_>) -> io::Result<()> {
-    if !is_shown(rt) {
-        return Ok(());
-    }
+/// Prints the chosen jobs to standard error, in the form of the command `jobs`.
+fn list_chosen(rt: &HostRuntime, asked: &JobSelection<'_>, chosen: &[&JobRows]) -> io::Result<()> {
     let request = asked.request();
     let (client, fileset) = (request.client.bytes(), request.fileset.bytes());
     let (Ok(client), Ok(fileset)) = (str::from_utf8(client), str::from_utf8(fileset)) else {
@@ -46,18 +23,47 @@ pub fn tell_chosen(rt: &HostRuntime, asked: &JobSelection<'_>) -> io::Result<()>
         fileset: Some(fileset),
         before: Some(request.moment),
     };
-    // Why nothing is chosen is told when the session begins.
-    let Ok(chosen) = asked.jobs(rt.alloc()) else {
-        return Ok(());
-    };
     let jobs = asked.history().jobs();
-    let Ok(text) = list_jobs(rt.alloc(), jobs, &filter, &Zones::Utc, &chosen) else {
+    let Ok(text) = list_jobs(rt.alloc(), jobs, &filter, &Zones::Utc, chosen) else {
         return Ok(());
     };
     for line in text.split(|byte| *byte == b'\n') {
         if line.starts_with(b"*") {
-            tell_job(rt, line)?;
+            let shown = String::from_utf8_lossy(rt.alloc(), line)?;
+            eprintln!(rt; "chosen: {shown}")?;
         }
     }
     Ok(())
+}
+
+/// Prints a line to standard error for each of the jobs that wrote to volumes and has no file rows.
+/// Returns true if there is one.
+fn warn_of_purged(rt: &HostRuntime, chosen: &[&JobRows]) -> io::Result<bool>
+    ensures { IfOk result (λ warned. warned ≡ has_warning (Ok (map (λ j. j.now) chosen.now))) }
+{
+    let text = purged_warnings(rt.alloc(), chosen)?;
+    let shown = String::from_utf8_lossy(rt.alloc(), &text)?;
+    eprint!(rt; "{shown}")?;
+    Ok(!text.is_empty())
+}
+
+/// Prints the chosen jobs to standard error if that is a terminal, and a warning for each of them
+/// whose files are gone from the catalogue. Returns true if there was a warning.
+///
+/// # Errors
+///
+/// If memory ran out, or standard error failed.
+pub fn tell_chosen(rt: &HostRuntime, asked: &JobSelection<'_>) -> io::Result<bool>
+    ensures { IfOk result (λ warned. warned ≡ has_warning (choose asked.now.history asked.now.request)) }
+{
+    let chosen = match asked.jobs(rt.alloc()) {
+        Ok(chosen) => chosen,
+        Err(ChooseFault::Memory) => return Err(ErrorKind::OutOfMemory.into()),
+        // Why nothing is chosen is told when the session begins.
+        Err(_) => return Ok(false),
+    };
+    if is_shown(rt) {
+        list_chosen(rt, asked, &chosen)?;
+    }
+    warn_of_purged(rt, &chosen)
 }

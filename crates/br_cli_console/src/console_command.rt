@@ -69,19 +69,20 @@ fn push_stop(text: &mut Vec<u8>, run: &ConsoleRun) -> Result<(), AllocError>
     }
 }
 
-/// Returns the exit status and the refusal line for this result.
+/// Returns the exit status and the refusal line for this result, after a warning or without one.
 pub fn console_ending(
     alloc: Global,
     run: &Result<ConsoleRun, ConsoleFault>,
+    is_warned: bool,
 ) -> Result<Ending, AllocError>
-    ensures status { IfOk result (λ ending. ending.status ≡ run_status run.now) }
+    ensures status { IfOk result (λ ending. ending.status ≡ run_status is_warned run.now) }
     ensures refusal { IfOk result (λ ending. ending.refusal.items ≡ run_refusal run.now) }
 {
     let mut refusal = Vec::new(alloc);
     let status = match run {
         Ok(run) => {
             push_stop(&mut refusal, run)?;
-            status_of(run)
+            if is_warned { REFUSED } else { status_of(run) }
         }
         Err(ConsoleFault::Io(_) | ConsoleFault::NoEnd(_)) => BAD_STREAM,
         Err(fault) => {
@@ -383,12 +384,12 @@ fn restore_into<C: Catalogue>(
     };
     let mut restore = with_watched_sink(with_watched_drives(restore, gauge)?, gauge);
     let asked = jobs.selection(rt.alloc());
-    tell_chosen(rt, &asked)?;
+    let is_warned = tell_chosen(rt, &asked)?;
     let mut reader = lines_of(rt, &asked)?;
     let mut writer = WatchedWriter::new(writer, gauge);
     let run = run_console(threads, &mut restore, &asked, &mut reader, &mut writer);
     gauge.clear();
-    let ending = console_ending(rt.alloc(), &run)?;
+    let ending = console_ending(rt.alloc(), &run, is_warned)?;
     let told = ToldOutcomes::of_session(&writer);
     let failed = failed_at(&restore.sink);
     report(rt, gauge, given, (&told, failed), &run, &ending)
@@ -451,12 +452,12 @@ fn restore_onto<'r, T: Channel + Drop, W: Channel + Drop>(
     let (jobs, restore) = setup;
     let mut restore = with_watched_sink(with_watched_drives(restore, gauge)?, gauge);
     let asked = jobs.selection(rt.alloc());
-    tell_chosen(rt, &asked)?;
+    let is_warned = tell_chosen(rt, &asked)?;
     let mut reader = lines_of(rt, &asked)?;
     let mut writer = WatchedWriter::new(answers, gauge);
     let stream = console_stream(threads, &asked, &mut restore, &mut reader, &mut writer);
     gauge.clear();
-    let mut ending = console_ending(rt.alloc(), &stream.run)?;
+    let mut ending = console_ending(rt.alloc(), &stream.run, is_warned)?;
     add_tar_end(&mut ending, stream.end)?;
     let told = ToldOutcomes::of_session(&writer);
     report(rt, gauge, given, (&told, None), &stream.run, &ending)
@@ -472,8 +473,10 @@ fn restore_onto<'r, T: Channel + Drop, W: Channel + Drop>(
 /// must not exist), and the catalogue (45, 47) are tested in this order before a line is read. The
 /// manifest is printed before any file is put.
 ///
+/// A line on standard error warns of each chosen job whose files are gone from the catalogue.
+///
 /// Returns the exit status: 0 if nothing was refused and each outcome is a file; 1 if something was
-/// refused or some outcome is not a file; 3 if the log could not be opened, or standard input or output
+/// refused, some outcome is not a file, or there was a warning; 3 if the log could not be opened, or standard input or output
 /// failed.
 ///
 /// # Errors

@@ -1,8 +1,11 @@
-ghost use Rattle.std.specs.Prelude.{◌≡◌, ◌⊎◌, IfOk};
+ghost use Rattle.std.specs.Prelude.{◌≡◌, ◌⊎◌, not, IfOk};
+ghost use Rattle.br_model.specs.Text.{is_empty};
+ghost use Rattle.br_jobs.specs.JobMarks.{marks};
+ghost use Rattle.br_cli_console.specs.ChosenJobs.{list_status, warned_status};
 ghost use Rattle.br_keeper.specs.Catalogue.{AreJobs};
 
 use crate::time_zone::SystemZones;
-use br_cli_common::{CLEAN, Clock, JobsOptions, is_shown, refuse_start};
+use br_cli_common::{CLEAN, Clock, JobsOptions, REFUSED, is_shown, refuse_start};
 use br_history::History;
 use br_jobs::{Filter, Zones, list_jobs, marked_lines};
 use br_keeper::{Catalogue, CatalogueFault};
@@ -65,21 +68,30 @@ fn tell_if_none(rt: &HostRuntime, lines: &[u8], filter: &Filter<'_>) -> io::Resu
     }
 }
 
+/// Prints the warnings of purged jobs to standard error. Returns the exit status.
+fn print_warnings(rt: &HostRuntime, warnings: &[u8]) -> io::Result<u8>
+    ensures status { IfOk result (λ status. status ≡ warned_status (not (is_empty warnings.now))) }
+{
+    let shown = String::from_utf8_lossy(rt.alloc(), warnings)?;
+    eprint!(rt; "{shown}")?;
+    Ok(if warnings.is_empty() { CLEAN } else { REFUSED })
+}
+
 /// Prints the lines of the jobs that the filter lists, and why none is marked, if the choice was refused.
-/// Returns the exit status.
+/// Warns of those marked whose files are gone from the catalogue. Returns the exit status.
 fn print_jobs(
     rt: &HostRuntime,
     history: &History,
     filter: &Filter<'_>,
     zones: &Zones<'_>,
 ) -> io::Result<u8>
-    ensures status { IfOk result (λ status. (status ≡ 0) ⊎ (status ≡ 1)) }
+    ensures status { IfOk result (λ status. status ≡ list_status (marks history.now filter.now)) }
 {
     match marked_lines(rt.alloc(), history, filter, zones) {
         Ok(text) => {
-            print_lines(rt, &text)?;
-            tell_if_none(rt, &text, filter)?;
-            Ok(CLEAN)
+            print_lines(rt, &text.lines)?;
+            tell_if_none(rt, &text.lines, filter)?;
+            print_warnings(rt, &text.warnings)
         }
         Err(fault) => {
             let text = list_jobs(rt.alloc(), history.jobs(), filter, zones, &[])?;
@@ -91,7 +103,7 @@ fn print_jobs(
 
 /// Prints the same lines with moments in UTC and in the time zone of the system. Returns the exit status.
 fn print_local_jobs(rt: &HostRuntime, history: &History, filter: &Filter<'_>) -> io::Result<u8>
-    ensures status { IfOk result (λ status. (status ≡ 0) ⊎ (status ≡ 1)) }
+    ensures status { IfOk result (λ status. status ≡ list_status (marks history.now filter.now)) }
 {
     let system = SystemZones::read(rt)?;
     let zones = Zones::UtcAndLocal(system.zone()?);
@@ -100,9 +112,9 @@ fn print_local_jobs(rt: &HostRuntime, history: &History, filter: &Filter<'_>) ->
 
 /// Prints the jobs of a catalogue, a line for each. If client, file set and moment are given, it marks those
 /// that `console` would choose; if that choice is refused, the refusal goes to standard error after the
-/// jobs.
+/// jobs. A line on standard error warns of each marked job whose files are gone from the catalogue.
 ///
-/// Returns the exit status: 1 if something was refused, else 0.
+/// Returns the exit status: 1 if something was refused or there was a warning, else 0.
 ///
 /// # Errors
 ///

@@ -1,7 +1,6 @@
 -- What `jobs` lists, and what it marks.
 use Rattle.std.specs.Prelude.{◌≡◌, ℕ, List, [], map, Option, Some, None, Result, Ok, Err}
 use Rattle.std.specs.Borrow.{Bor}
-use Rattle.std.specs.Global.{Vec}
 use Rattle.br_model.specs.Answer.{◌>>=◌, IsRefusal}
 use Rattle.br_model.specs.Choice.{choose}
 use Rattle.br_model.specs.Job.{JobRows}
@@ -11,6 +10,8 @@ use Rattle.br_jobs.specs.JobFilter.{listed}
 use Rattle.br_jobs.specs.LocalTime.{AreLinesIn}
 use Rattle.br_jobs.specs.declared.job_filter.Filter.{Filter}
 use Rattle.br_jobs.specs.ListingFault.{cause}
+use Rattle.br_jobs.specs.PurgedJobs.{WarnsOf}
+use Rattle.br_jobs.specs.declared.job_marks.MarkedLines.{MarkedLines}
 use Rattle.br_jobs.specs.declared.listing_fault.ListingFault.{ListingFault}
 use Rattle.br_jobs.specs.declared.time_zones.Zones.{Zones}
 
@@ -28,9 +29,14 @@ marked history None fileset moment = Ok []
 marked history (Some client) None moment = Ok []
 marked history (Some client) (Some fileset) None = Ok []
 
--- the lines of the jobs that a filter lists with their moments in these zones, with those marked that are chosen; or why none is chosen
-abbrev pub MarksLines : Zones → List JobRows → Filter → Result (Vec ℕ) ListingFault → Type 0
+-- those that a filter marks
+abbrev pub marks : List JobRows → Filter → Result (List JobRows) ℕ
+marks history f = marked history f.client f.fileset f.before
+
+-- The lines of the jobs that a filter lists with their moments in these zones, with those marked
+-- that are chosen, and the warnings of the chosen; or why none is chosen.
+abbrev pub MarksLines : Zones → List JobRows → Filter → Result MarkedLines ListingFault → Type 0
 MarksLines zones history f (Ok text) =
-    (chosen : List (Bor JobRows)) × (marked history f.client f.fileset f.before ≡ Ok (map (λ (j : Bor JobRows). j.now) chosen))
-    × AreLinesIn zones chosen (listed f history) text.items
-MarksLines zones history f (Err fault) = IsRefusal (cause fault) (marked history f.client f.fileset f.before)
+    (chosen : List (Bor JobRows)) × (marks history f ≡ Ok (map (λ (j : Bor JobRows). j.now) chosen))
+    × AreLinesIn zones chosen (listed f history) text.lines.items × WarnsOf chosen text.warnings.items
+MarksLines zones history f (Err fault) = IsRefusal (cause fault) (marks history f)

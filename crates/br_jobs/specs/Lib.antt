@@ -2,4 +2,5 @@ pub mod ListingFault
 pub mod JobFilter
 pub mod ListingLine
 pub mod LocalTime
+pub mod PurgedJobs
 pub mod JobMarks

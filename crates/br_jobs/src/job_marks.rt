@@ -9,6 +9,7 @@ ghost use Rattle.br_jobs.specs.JobMarks.{MarksLines};
 use crate::job_filter::Filter;
 use crate::job_listing::list_jobs;
 use crate::listing_fault::ListingFault;
+use crate::purged_jobs::purged_warnings;
 use crate::time_zones::Zones;
 use br_choose::choose;
 use br_history::{History, JobRows};
@@ -61,8 +62,18 @@ fn marked<'h>(
     }
 }
 
+/// The lines of jobs of which some are marked.
+#[derive(Drop)]
+pub struct MarkedLines {
+    /// A line for each job that is listed.
+    pub lines: Vec<u8>,
+    /// A line for each marked job that wrote to volumes and has no file rows.
+    pub warnings: Vec<u8>,
+}
+
 /// Returns the lines of the jobs that the filter lists, with their moments in the given zones.
-/// Marks those that `console` would choose, if client, file set and moment are given.
+/// Marks those that `console` would choose, if client, file set and moment are given, and warns of
+/// those of them whose files are gone from the catalogue.
 ///
 /// # Errors
 ///
@@ -72,10 +83,11 @@ pub fn marked_lines(
     history: &History,
     filter: &Filter<'_>,
     zones: &Zones<'_>,
-) -> Result<Vec<u8>, ListingFault>
+) -> Result<MarkedLines, ListingFault>
     ensures { MarksLines zones.now history.now filter.now result }
 {
     let chosen = marked(alloc, history, filter)?;
-    let text = list_jobs(alloc, history.jobs(), filter, zones, &chosen)?;
-    Ok(text)
+    let lines = list_jobs(alloc, history.jobs(), filter, zones, &chosen)?;
+    let warnings = purged_warnings(alloc, &chosen)?;
+    Ok(MarkedLines { lines, warnings })
 }

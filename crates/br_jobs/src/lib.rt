@@ -11,13 +11,15 @@ mod job_volumes;
 mod listing_fault;
 mod listing_line;
 mod local_time;
+mod purged_jobs;
 mod saved_sums;
 mod time_zones;
 mod utc_moment;
 
 pub use job_filter::Filter;
 pub use job_listing::list_jobs;
-pub use job_marks::marked_lines;
+pub use job_marks::{MarkedLines, marked_lines};
 pub use listing_fault::ListingFault;
+pub use purged_jobs::purged_warnings;
 pub use time_zones::Zones;
 pub use utc_moment::moment_text;
