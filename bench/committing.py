@@ -1,17 +1,15 @@
 #!/usr/bin/env python3
 """Measures commits: jobs that `brestore serve --db --volumes` stores, beside SQLite's own library that inserts the same rows.
 
-    bench/committing.py                    100 commits over a catalogue of a million file rows, then 1,000 commits, then snapshots
+    bench/committing.py                    100 commits over a catalogue of a million file rows, then 1,000 commits
     bench/committing.py --program FILE     another program than crates/brestore/out/brestore
-    bench/committing.py --bench FILE       another program than crates/br_bench/out/br_bench
     bench/committing.py --before FILE      also beside an older program, on the disk of --folder
-    bench/committing.py --rows N --commits N --files N --long N --snapshots N
+    bench/committing.py --rows N --commits N --files N --long N
 
 The first part copies a catalogue of a Full of `--rows` paths, which SQLite's own library made, has the program commit `--commits` jobs
 of `--files` files each, and then has Python's `sqlite3` insert the same rows into another copy, in one transaction for each job. A job's
 time is that between two lines `stored`. The second part commits `--long` such jobs to an empty catalogue and compares the last ones with
-the tenth. The third part has `br_bench` commit `--snapshots` such jobs in memory over `--rows` file rows, while two sessions take
-snapshots. With `--before` the program and an older one commit `--commits` such jobs to empty catalogues by turns; a commit is to take
+the tenth. With `--before` the program and an older one commit `--commits` such jobs to empty catalogues by turns; a commit is to take
 at most 1.5 times as long as the older one's. The status is 1 if a program printed something else than it must, or the rows are not those
 that SQLite inserted, and with `--strict` also if the target is missed.
 """
@@ -31,7 +29,7 @@ import time
 # Nothing is left beside the script.
 sys.dont_write_bytecode = True
 sys.path.insert(0, os.path.join(os.path.dirname(os.path.dirname(os.path.abspath(__file__))), "tools"))
-from common import BENCH_PROGRAM, MIB, PROGRAM
+from common import MIB, PROGRAM
 from loading import make
 
 # The number of files in a folder.
@@ -231,21 +229,6 @@ def in_proportion(options, folder):
     print(f"  peak memory at the end {peak / MIB:.0f} MiB, for {options.long * options.files} file rows")
 
 
-def beside_snapshots(options):
-    """Has `br_bench` commit jobs while sessions take snapshots. Returns whether it printed what it must."""
-    words = [options.bench, "commit", *map(str, (options.rows, options.snapshots, options.files))]
-    ran = subprocess.run(words, capture_output=True, text=True)
-    if ran.returncode or ran.stdout != f"committed {options.snapshots} jobs\n":
-        print(f"{' '.join(words)}: status {ran.returncode}, {ran.stdout!r}, {ran.stderr!r}")
-        return False
-    found = {name: int(value) for name, value in (line.split() for line in ran.stderr.splitlines())}
-    each, rate = found["commits"] / 1000 / options.snapshots, found["snapshots"] / found["whole"] * 1_000_000
-    print(f"{options.snapshots} commits of {options.files} files each in memory over {options.rows} file rows, beside two sessions:")
-    print(f"  {'each commit':34} {each:8.2f} ms")
-    print(f"  {'snapshots':34} {rate:8.0f} a second, {found['snapshots']} in {found['whole'] / 1_000_000:.2f} s")
-    return True
-
-
 def main():
     parser = argparse.ArgumentParser(description="Measures commits.")
     parser.add_argument("--program", type=os.path.abspath, default=PROGRAM, help="the program (default: %(default)s)")
@@ -253,8 +236,6 @@ def main():
     parser.add_argument("--commits", type=int, default=100)
     parser.add_argument("--files", type=int, default=1000)
     parser.add_argument("--long", type=int, default=1000)
-    parser.add_argument("--bench", type=os.path.abspath, default=BENCH_PROGRAM, help="the program in memory (default: %(default)s)")
-    parser.add_argument("--snapshots", type=int, default=100)
     parser.add_argument("--before", type=os.path.abspath, help="an older program, which commits the same jobs")
     parser.add_argument("--repeats", type=int, default=5, help="runs of each beside the older program (default: %(default)s)")
     parser.add_argument("--folder", help="where catalogues and volumes are made (default: a temporary folder)")
@@ -267,8 +248,6 @@ def main():
             is_right = beside_sqlite(options, folder) and is_right
         if options.long:
             in_proportion(options, folder)
-    if options.snapshots:
-        is_right = beside_snapshots(options) and is_right
     return 0 if is_right else 1
 
 

@@ -25,7 +25,6 @@ import time
 sys.dont_write_bytecode = True
 sys.path.insert(0, os.path.join(os.path.dirname(os.path.dirname(os.path.abspath(__file__))), "tools"))
 from common import MIB, ORDER_SQL, PROGRAM, run_measured
-from selecting import path_of
 
 NUMBERS = "P0A Cat6a IGk B Po Po A C4 BAA I BfV5Ch BfV5Ch BfV5Ch A A C"
 DIGEST = "07" * 16
@@ -42,24 +41,62 @@ def tables():
         return [it for it in text.read().split(";") if "CREATE TABLE" in it]
 
 
+def path_of(number):
+    """Returns the path with this number. A project has a hundred paths, a user ten projects."""
+    project = f"/home/user{number // 1000}/project{number // 100 % 10}/"
+    if number == 97:
+        return "/home/"
+    if number % 1000 == 998:
+        return f"/home/user{number // 1000}/"
+    return project if number % 100 == 99 else f"{project}file{number:06}"
+
+
 def number_at(place):
     """Returns the number of the path at a place of the Full. The files of a directory are in no
     order."""
     return place // 100 * 100 + place % 100 * 37 % 100
 
 
-def put_files(db, count):
-    """Inserts the rows of the Full's files, and each path once."""
-    known = {}
-    for place in range(count):
-        path, _, name = path_of(number_at(place)).encode().rpartition(b"/")
+def change_at(job, place, apart):
+    """Returns the path of a row of an Incremental, and whether the row is a deletion.
+
+    `apart` is the number of paths of the Full for each row. Of ten rows one is a deletion, two are of new files, three of files that
+    each Incremental has, and four of files that only this one has.
+    """
+    first = place * apart
+    number = first + job
+    if place % 10 in (1, 2):
+        return f"/home/user{number // 1000}/project{number // 100 % 10}/added{job:02}-{number:06}", False
+    return path_of(first if 3 <= place % 10 <= 5 else number), place % 10 == 0
+
+
+def rows_of(job, count, rows):
+    """Returns path and FileIndex of each row of a job: of the Full of `count` paths if its number is 0, else of an Incremental of `rows`
+    rows. Deletions come last, and their FileIndex is 0."""
+    if job == 0:
+        return ((path_of(number_at(place)), place + 1) for place in range(count))
+    changes = [change_at(job, place, count // rows) for place in range(rows)]
+    saved = [path for path, is_deleted in changes if not is_deleted]
+    return [*((path, index) for index, path in enumerate(saved, 1)), *((path, 0) for path, is_deleted in changes if is_deleted)]
+
+
+def put_job(db, known, job, found):
+    """Inserts the rows of a job, each path once in all, and its files on a volume of its own."""
+    level, number, last = "I" if job else "F", job + 1, 0
+    db.execute("INSERT INTO Job VALUES (?, 'B', ?, 1, 'T', ?, 1, ?, ?)", (number, level, number, number, number))
+    for path, index in found:
+        path, _, name = path.encode().rpartition(b"/")
         if path not in known:
             known[path] = db.execute("INSERT INTO Path (Path) VALUES (?)", (path + b"/",)).lastrowid
-        db.execute("INSERT INTO File (FileIndex, JobId, PathId, Filename, LStat, MD5) VALUES (?, 1, ?, ?, ?, ?)", (place + 1, known[path], name, NUMBERS, DIGEST))
+        row = (index, number, known[path], name, *((NUMBERS, DIGEST) if index else ("", "")))
+        db.execute("INSERT INTO File (FileIndex, JobId, PathId, Filename, LStat, MD5) VALUES (?, ?, ?, ?, ?, ?)", row)
+        last = max(last, index)
+    db.execute("INSERT INTO Media VALUES (?, ?, 'File')", (number, f"Vol-{number:04}"))
+    db.execute("INSERT INTO JobMedia VALUES (?, ?, ?, 1, ?, 0, 0, 0, 999999999, 1)", (number, number, number, last))
 
 
-def make(file, count):
-    """Makes a catalogue of one Full."""
+def make(file, count, jobs=0, rows=0):
+    """Makes a catalogue of one Full, and of Incrementals of `rows` rows each."""
     db = sqlite3.connect(file, isolation_level=None)
     for statement in tables():
         db.execute(statement)
@@ -67,10 +104,9 @@ def make(file, count):
     db.execute("INSERT INTO Version VALUES (2)")
     db.execute("INSERT INTO Client VALUES (1, 'mars')")
     db.execute("INSERT INTO FileSet VALUES (1, 'home')")
-    db.execute("INSERT INTO Media VALUES (1, 'Vol-0001', 'File')")
-    db.execute("INSERT INTO Job VALUES (1, 'B', 'F', 1, 'T', 1, 1, 1, 1)")
-    db.execute("INSERT INTO JobMedia VALUES (1, 1, 1, 1, ?, 0, 0, 0, 999999999, 1)", (count,))
-    put_files(db, count)
+    known = {}
+    for job in range(jobs + 1):
+        put_job(db, known, job, rows_of(job, count, rows))
     db.execute("COMMIT")
     db.close()
 

@@ -21,8 +21,7 @@ import time
 sys.dont_write_bytecode = True
 sys.path.insert(0, os.path.join(os.path.dirname(os.path.dirname(os.path.abspath(__file__))), "tools"))
 from common import MIB, PROGRAM, VERSION_1_SQL, run_measured
-from loading import DIGEST, NUMBERS, number_at
-from selecting import path_of
+from loading import DIGEST, NUMBERS, number_at, path_of
 
 # The same by SQLite itself. It can't change a column's place, so that a new table takes the rows.
 BY_SQLITE = """BEGIN;
