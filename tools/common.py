@@ -12,7 +12,6 @@ PROVED = os.path.join(ROOT, "crates", "brestore", "out", "brestore")
 BUILT = os.path.join(ROOT, "out", "build", "brestore")
 # The proved program if there is one, else the one that tools/build makes.
 PROGRAM = PROVED if os.path.exists(PROVED) or not os.path.exists(BUILT) else BUILT
-BENCH_PROGRAM = os.path.join(ROOT, "crates", "br_bench", "out", "br_bench")
 KEEPER_PROGRAM = os.path.join(ROOT, "crates", "br_test_commits", "out", "br_test_commits")
 CASES = os.path.join(ROOT, "acceptance", "cases")
 SETS = os.path.join(ROOT, "acceptance", "sets")
