@@ -1,5 +1,5 @@
 -- The blocks of a volume, one after the other.
-use Rattle.std.proofs.Common.{◌≡◌, ◌∙◌, ℕ, zero, suc, ◌+◌, ◌<◌, ◌≤◌, length, take, drop, List, [], ◌∷◌, ◌++◌, flat_map, Option, Some, None, Bool, true, false, if◌then◌else◌, Result, Ok, Err, refl, sym, ap, arith, length-drop}
+use Rattle.std.proofs.Common.{◌≡◌, ◌∙◌, ℕ, zero, suc, ◌+◌, ◌<◌, ◌≤◌, length, take, drop, List, [], ◌∷◌, ◌++◌, flat_map, Option, Some, None, Bool, true, false, if◌then◌else◌, Result, Ok, Err, refl, sym, ap, arith, subst, append_assoc, append-nil, length-drop}
 use Rattle.std.specs.Prelude.{nat_lt, ◌||◌, ◌&&◌}
 use Rattle.std.proofs.lemmas.Bool.{le-ltb, lt-ltb, or_right}
 use Rattle.std.proofs.lemmas.List.{length-take, nil_from_length}
@@ -14,7 +14,7 @@ use Rattle.br_model.proofs.AnswerLaws.{ok_is, refuse_ok}
 use Rattle.br_model.proofs.ListLaws.{long_is_not_empty}
 use Rattle.br_model.proofs.SpanLaws.{read_header_alone}
 use Rattle.br_model.proofs.VolumeLaws.{header_has_16}
-use Rattle.br_check.specs.ChecksumBlocks.{and_after, block_at, block_line, blocks_until, differing_line, lines_from}
+use Rattle.br_check.specs.ChecksumBlocks.{Leads, PassesTo, and_after, block_at, block_line, block_lines, blocks_until, differing_line, lines_from}
 use Rattle.br_check.specs.ChecksumWalk.{AreAt, HasSize}
 
 -- ---- a block at an address
@@ -189,28 +189,54 @@ lines_cut volume gs bytes a size got near covered has at short =
     (both_so (is_covered (just_groups gs) a) (nat_lt (length left) has.head.size) true covered (lt-ltb (length left) has.head.size fewer)))
 
 -- at a block that is not asked for
-pub lines_passed : (volume : List ℕ) (gs : List (ℕ × Group)) (bytes : List ℕ) (a size : ℕ) → is_above (bound_of (just_groups gs)) a ≡ false
-    → is_covered (just_groups gs) a ≡ false → HasSize bytes a size → lines_from volume gs bytes a ≡ [] ++ lines_from volume gs bytes (a + size)
-lines_passed volume gs bytes a size near covered has =
+pub block_passed : (volume : List ℕ) (gs : List (ℕ × Group)) (bytes : List ℕ) (a size : ℕ) → is_above (bound_of (just_groups gs)) a ≡ false
+    → is_covered (just_groups gs) a ≡ false → HasSize bytes a size → PassesTo (block_line volume gs) (block_at gs bytes a) (a + size) []
+block_passed volume gs bytes a size near covered has =
     let left = drop a bytes in
     let h = has.head in
-    let found = passed_head gs bytes a h (goes_on_at gs bytes a near has.within) has.read (not_covered (is_covered (just_groups gs) a) (nat_lt (length left) h.size) covered) in
-    lines_step volume gs bytes a (laid a left h.size, a + h.size) found
-    ∙ ap (λ (c : Bool). (if c then differing_line volume a (take h.size left) else []) ++ lines_from volume gs bytes (a + h.size)) covered
-    ∙ ap (λ (n : ℕ). lines_from volume gs bytes (a + n)) has.is
+    let found = passed_head gs bytes a h (goes_on_at gs bytes a near has.within) has.read (not_covered (is_covered (just_groups gs) a) (nat_lt (length left) h.size) covered) in (
+      laid a left h.size,
+      found ∙ ap (λ (n : ℕ). Ok (Some (laid a left h.size, a + n))) has.is,
+      ap (λ (c : Bool). if c then differing_line volume a (take h.size left) else []) (sym covered),
+    )
 
 -- at a whole block that is asked for
-pub lines_compared : (volume : List ℕ) (gs : List (ℕ × Group)) (bytes : List ℕ) (a size : ℕ) (got : List ℕ) → is_above (bound_of (just_groups gs)) a ≡ false
+pub block_compared : (volume : List ℕ) (gs : List (ℕ × Group)) (bytes : List ℕ) (a size : ℕ) (got : List ℕ) → is_above (bound_of (just_groups gs)) a ≡ false
     → is_covered (just_groups gs) a ≡ true → HasSize bytes a size → AreAt bytes a size got → size ≤ length got
-    → lines_from volume gs bytes a ≡ differing_line volume a got ++ lines_from volume gs bytes (a + size)
-lines_compared volume gs bytes a size got near covered has at whole =
+    → PassesTo (block_line volume gs) (block_at gs bytes a) (a + size) (differing_line volume a got)
+block_compared volume gs bytes a size got near covered has at whole =
     let left = drop a bytes in
     let h = has.head in
     let fits : h.size ≤ length left = omega (arith, has.is, whole, ap length at.taken, length-take size left) in
     let found =
     passed_head gs bytes a h (goes_on_at gs bytes a near has.within) has.read
     (both_so (is_covered (just_groups gs) a) (nat_lt (length left) h.size) false covered (le-ltb (length left) h.size fits)) in
-    lines_step volume gs bytes a (laid a left h.size, a + h.size) found
-    ∙ ap (λ (c : Bool). (if c then differing_line volume a (take h.size left) else []) ++ lines_from volume gs bytes (a + h.size)) covered
-    ∙ ap (λ (n : ℕ). differing_line volume a (take n left) ++ lines_from volume gs bytes (a + n)) has.is
-    ∙ ap (λ (xs : List ℕ). differing_line volume a xs ++ lines_from volume gs bytes (a + size)) at.taken
+    let bytes_are : take h.size left ≡ got = ap (λ (n : ℕ). take n left) has.is ∙ at.taken in (
+      laid a left h.size,
+      found ∙ ap (λ (n : ℕ). Ok (Some (laid a left h.size, a + n))) has.is,
+      ap (λ (xs : List ℕ). differing_line volume a xs) (sym bytes_are) ∙ ap (λ (c : Bool). if c then differing_line volume a (take h.size left) else []) (sym covered),
+    )
+
+-- ---- blocks that a walk passes
+
+-- one block more
+pub leads_further : (gs : List (ℕ × Group)) (bytes : List ℕ) (a : ℕ) (blocks : List LaidBlock) (next last : ℕ) (b : LaidBlock) → Leads gs bytes a blocks next
+    → block_at gs bytes next ≡ Ok (Some (b, last)) → Leads gs bytes a (blocks ++ b ∷ []) last
+leads_further gs bytes a [] next last b same here = (last, subst (λ (at : ℕ). block_at gs bytes at ≡ Ok (Some (b, last))) same here, refl)
+leads_further gs bytes a (c ∷ blocks) next last b leads here = (leads.0, leads.1, leads_further gs bytes leads.0 blocks next last b leads.2 here)
+
+-- their lines, and those of the blocks after them
+pub lines_led : (volume : List ℕ) (gs : List (ℕ × Group)) (bytes : List ℕ) (a : ℕ) (blocks : List LaidBlock) (next : ℕ) → Leads gs bytes a blocks next
+    → lines_from volume gs bytes a ≡ block_lines volume gs blocks ++ lines_from volume gs bytes next
+lines_led volume gs bytes a [] next same = ap (lines_from volume gs bytes) (sym same)
+lines_led volume gs bytes a (b ∷ blocks) next leads =
+    lines_step volume gs bytes a (b, leads.0) leads.1
+    ∙ ap (λ (xs : List ℕ). block_line volume gs b ++ xs) (lines_led volume gs bytes leads.0 blocks next leads.2)
+    ∙ sym (append_assoc (block_line volume gs b) (block_lines volume gs blocks) (lines_from volume gs bytes next))
+
+pub lines_of_more : (volume : List ℕ) (gs : List (ℕ × Group)) (blocks : List LaidBlock) (b : LaidBlock)
+    → block_lines volume gs (blocks ++ b ∷ []) ≡ block_lines volume gs blocks ++ block_line volume gs b
+lines_of_more volume gs [] b = append-nil (block_line volume gs b)
+lines_of_more volume gs (c ∷ blocks) b =
+    ap (λ (xs : List ℕ). block_line volume gs c ++ xs) (lines_of_more volume gs blocks b)
+    ∙ sym (append_assoc (block_line volume gs c) (block_lines volume gs blocks) (block_line volume gs b))

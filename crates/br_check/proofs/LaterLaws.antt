@@ -8,9 +8,9 @@ use Rattle.br_model.specs.Volume.{Volume, Extends, is_above, volume_bytes}
 use Rattle.br_model.proofs.SpanLaws.{read_header_alone, read_header_more}
 use Rattle.br_volume.specs.Drive.{OnlyGrows}
 use Rattle.br_volume.proofs.ExtendLaws.{extends_itself, extends_more}
-use Rattle.br_check.specs.ChecksumBlocks.{bytes_in, differing_line, lines_from, or_none}
+use Rattle.br_check.specs.ChecksumBlocks.{PassesTo, block_at, block_line, bytes_in, differing_line, lines_from, or_none}
 use Rattle.br_check.specs.ChecksumWalk.{AreAt, ArePassed, HasSize, InLater, InShown}
-use Rattle.br_check.proofs.BlockLaws.{lines_compared, lines_cut, lines_passed}
+use Rattle.br_check.proofs.BlockLaws.{block_compared, block_passed, lines_cut}
 
 -- ---- facts of the bytes that a drive shows
 
@@ -97,8 +97,8 @@ whole_later (Some volumes) volume a size got whole at =
 pub passed_unasked : (shown : Option (List Volume)) (volume : List ℕ) (gs : List (ℕ × Group)) (a size : ℕ) → is_above (bound_of (just_groups gs)) a ≡ false
     → is_covered (just_groups gs) a ≡ false → InLater shown volume (λ bytes. HasSize bytes a size) → ArePassed shown volume gs a (a + size) []
 passed_unasked shown volume gs a size near covered has =
-    later_so shown volume (λ bytes. HasSize bytes a size) (λ bytes. HasSize bytes a size) (λ bytes. lines_from volume gs bytes a ≡ [] ++ lines_from volume gs bytes (a + size)) has has
-    (λ bytes h _. lines_passed volume gs bytes a size near covered h)
+    later_so shown volume (λ bytes. HasSize bytes a size) (λ bytes. HasSize bytes a size)
+    (λ bytes. PassesTo (block_line volume gs) (block_at gs bytes a) (a + size) []) has has (λ bytes h _. block_passed volume gs bytes a size near covered h)
 
 -- a whole one that is asked for is passed with its line
 pub passed_asked : (shown : Option (List Volume)) (volume : List ℕ) (gs : List (ℕ × Group)) (a size : ℕ) (got : List ℕ) → is_above (bound_of (just_groups gs)) a ≡ false
@@ -106,8 +106,8 @@ pub passed_asked : (shown : Option (List Volume)) (volume : List ℕ) (gs : List
     → InShown shown volume (λ bytes. AreAt bytes a size got) → ArePassed shown volume gs a (a + size) (differing_line volume a got)
 passed_asked shown volume gs a size got near covered has whole at =
     later_so shown volume (λ bytes. HasSize bytes a size) (λ bytes. AreAt bytes a size got)
-    (λ bytes. lines_from volume gs bytes a ≡ differing_line volume a got ++ lines_from volume gs bytes (a + size)) has (whole_later shown volume a size got whole at)
-    (λ bytes h t. lines_compared volume gs bytes a size got near covered h t whole)
+    (λ bytes. PassesTo (block_line volume gs) (block_at gs bytes a) (a + size) (differing_line volume a got)) has (whole_later shown volume a size got whole at)
+    (λ bytes h t. block_compared volume gs bytes a size got near covered h t whole)
 
 -- one that is not whole ends the walk
 pub ended_cut : (shown : Option (List Volume)) (volume : List ℕ) (gs : List (ℕ × Group)) (a size : ℕ) (got : List ℕ) → is_above (bound_of (just_groups gs)) a ≡ false

@@ -1,3 +1,4 @@
+mod CallLaws
 mod SearchLaws
 mod CopyLaws
 mod LabelLaws

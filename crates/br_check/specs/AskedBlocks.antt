@@ -16,4 +16,4 @@ groups_of a = a.groups.now
 
 -- a step of the walk, over the volumes that a drive may be taken to show
 abbrev pub StepOver : Shown → AskedBlocks → ℕ → List ℕ → List ℕ → ChecksumStep → Type 0
-StepOver s asked address before after step = IsStep s.later s.failures s.failed (volume_of asked) (groups_of asked) address before after step
+StepOver s asked address before after step = IsStep s.later.shows s.earlier.failures s.later.failures (volume_of asked) (groups_of asked) address before after step

@@ -7,11 +7,12 @@ use Rattle.br_model.specs.Name.{FileKey}
 use Rattle.br_model.specs.Text.{line}
 use Rattle.br_piece.specs.MissingLines.{report}
 use Rattle.br_records.specs.Outline.{Outlined, outlines_found}
+use Rattle.br_check.specs.Calls.{InTurn}
 use Rattle.br_check.specs.Conflicts.{conflict_lines}
 use Rattle.br_check.specs.Findings.{bytes_in, copy_lines, file_line, files_in, long_line, memory_for, name_line, volume_line}
-use Rattle.br_check.specs.Label.{TellLabels}
-use Rattle.br_check.specs.Search.{AreSearched, Searched, all_found}
-use Rattle.br_check.specs.Shown.{Shown}
+use Rattle.br_check.specs.Label.{TellsVolume}
+use Rattle.br_check.specs.Search.{IsSearched, Searched, all_found}
+use Rattle.br_check.specs.Shown.{Moment, Shown}
 use Rattle.br_check.specs.declared.run.Checked.{Checked}
 
 -- the outlines of the files with one of these hits, in order of key
@@ -46,12 +47,12 @@ pub record IsChecked (groups : List Group) (counts : List (Option ℕ)) (budget 
   pub bytes : checked.bytes ≡ bytes_in (outlines_of results)
   pub memory : checked.memory ≡ memory_for budget (length (all_found results)) (outlines_of results)
 
--- what was found, over the volumes that the drive may be taken to show, is what is checked, with what is said of labels
+-- First the pieces are searched, one after the other, then the label of each of their volumes is
+-- read. What was found, and what is said of labels, is what is checked.
 abbrev pub ChecksOver : Shown → List Group → List (Option ℕ) → ℕ → Checked → Type 0
 ChecksOver s groups counts budget checked =
-    (results : List Searched) × (labels : List (List ℕ)) × AreSearched s.earlier s.later (pieces_of groups) results
-    × TellLabels s.earlier s.later s.failures s.failed (pieces_of groups) labels
-    × IsChecked groups counts budget results (flat_map (λ line. line) labels) checked
+    (searched : Moment) × (results : List Searched) × (labels : List (List ℕ)) × InTurn IsSearched s.earlier searched (pieces_of groups) results
+    × InTurn TellsVolume searched s.later (pieces_of groups) labels × IsChecked groups counts budget results (flat_map (λ line. line) labels) checked
 
 -- the findings, the memory, and then the number of files and of their bytes
 abbrev pub checked_text : Checked → List ℕ

@@ -1,5 +1,5 @@
 -- The blocks of a volume that a bootstrap asks for, and those of them whose checksums differ.
-use Rattle.std.specs.Prelude.{ℕ, zero, suc, ◌+◌, ◌==◌, ◌&&◌, not, if◌then◌else◌, Bool, List, [], ◌∷◌, ◌++◌, length, drop, flat_map, decimal, codes, Option, Some, None, Result, Ok, Err}
+use Rattle.std.specs.Prelude.{◌≡◌, ℕ, zero, suc, ◌+◌, ◌==◌, ◌&&◌, not, if◌then◌else◌, Bool, List, [], ◌∷◌, ◌++◌, length, drop, flat_map, decimal, codes, Option, Some, None, Result, Ok, Err}
 use Rattle.br_model.specs.Block.{u32_at}
 use Rattle.br_model.specs.Bootstrap.{Group}
 use Rattle.br_model.specs.Meaning.{Piece, bound_of, is_covered, just_groups}
@@ -45,6 +45,19 @@ and_after after (Err fault) = []
 unfoldable pub blocks_until : List (ℕ × Group) → List ℕ → ℕ → ℕ → List LaidBlock
 blocks_until numbered bytes zero address = []
 blocks_until numbered bytes (suc n) address = and_after (blocks_until numbered bytes n) (block_at numbered bytes address)
+
+-- a walk that found this passes a block, which ends at the next address and has these lines
+abbrev pub PassesTo : (LaidBlock → List ℕ) → Result (Option (LaidBlock × ℕ)) BlockFault → ℕ → List ℕ → Type 0
+PassesTo lines found next told = (block : LaidBlock) × (found ≡ Ok (Some (block, next))) × (told ≡ lines block)
+
+-- a walk passes these blocks between two addresses
+abbrev pub Leads : List (ℕ × Group) → List ℕ → ℕ → List LaidBlock → ℕ → Type 0
+Leads numbered bytes address [] next = next ≡ address
+Leads numbered bytes address (b ∷ more) next = (after : ℕ) × (block_at numbered bytes address ≡ Ok (Some (b, after))) × Leads numbered bytes after more next
+
+-- the lines of blocks
+abbrev pub block_lines : List ℕ → List (ℕ × Group) → List LaidBlock → List ℕ
+block_lines volume numbered blocks = flat_map (block_line volume numbered) blocks
 
 -- the lines of the blocks from an address on
 unfoldable pub lines_from : List ℕ → List (ℕ × Group) → List ℕ → ℕ → List ℕ

@@ -3,7 +3,7 @@ use Rattle.std.specs.Prelude.{◌≡◌, ◌⊎◌, ℕ, ◌+◌, ◌^◌, ◌<�
 use Rattle.br_model.specs.Block.{Header, read_header}
 use Rattle.br_model.specs.Bootstrap.{Group}
 use Rattle.br_model.specs.Volume.{Volume, Extends}
-use Rattle.br_check.specs.ChecksumBlocks.{bytes_in, differing_line, lines_from}
+use Rattle.br_check.specs.ChecksumBlocks.{PassesTo, block_at, block_line, bytes_in, differing_line, lines_from}
 use Rattle.br_volume.specs.declared.drive.Got.{Got}
 use Rattle.br_volume.specs.declared.drive.Got.TheVariants.{Block, End}
 use Rattle.br_volume.specs.declared.fault.DriveFault.{DriveFault}
@@ -58,10 +58,10 @@ IsCompared volume address size block before after (Passed passed) =
 IsCompared volume address size block before after Ended = (length block < size) × (after ≡ before)
 IsCompared volume address size block before after Failed = ⊥
 
--- the lines of a block that was passed, and those of the blocks after it
+-- a block was passed between two addresses, and these are its lines
 abbrev pub ArePassed : Option (List Volume) → List ℕ → List (ℕ × Group) → ℕ → ℕ → List ℕ → Type 0
 ArePassed shown volume numbered address next told =
-    InLater shown volume (λ bytes. lines_from volume numbered bytes address ≡ told ++ lines_from volume numbered bytes next)
+    InLater shown volume (λ bytes. PassesTo (block_line volume numbered) (block_at numbered bytes address) next told)
 
 -- A step of a walk appended the lines of a block; or the walk is at its end; or the drive failed.
 abbrev pub IsStep : Option (List Volume) → ℕ → ℕ → List ℕ → List (ℕ × Group) → ℕ → List ℕ → List ℕ → ChecksumStep → Type 0

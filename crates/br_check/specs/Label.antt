@@ -1,13 +1,13 @@
 -- The name in the label of a volume. (Bacula's Developer's Guide, "Storage Media Output Format", "Volume Label Format".)
-use Rattle.std.specs.Prelude.{◌≡◌, ◌⊎◌, ℕ, ◌<◌, nat_le, Bool, ◌&&◌, ◌==◌, if◌then◌else◌, List, [], ◌∷◌, ◌++◌, length, take, drop, find, flat_map, bytes_eq, codes, Option, Some, None, nat_abs, Result, Ok, Err, ⊤}
+use Rattle.std.specs.Prelude.{◌≡◌, ◌⊎◌, ℕ, ◌<◌, nat_le, Bool, ◌&&◌, ◌==◌, if◌then◌else◌, List, [], ◌∷◌, ◌++◌, length, take, drop, find, bytes_eq, codes, Option, Some, None, nat_abs, Result, Ok, Err, ⊤}
 use Rattle.std.specs.Int.{is_negative}
-use Rattle.std.specs.List.{position, AllZip}
+use Rattle.std.specs.List.{position}
 use Rattle.br_model.specs.Block.{Fragment, fragments_of, read_block}
 use Rattle.br_model.specs.Meaning.{Piece}
 use Rattle.br_model.specs.Text.{line, escaped}
 use Rattle.br_model.specs.Volume.{Volume, volume_bytes}
-use Rattle.br_volume.specs.Drive.{OnlyGrows}
-use Rattle.br_check.specs.Shown.{Shown}
+use Rattle.br_check.specs.Calls.{AppendsInTurn}
+use Rattle.br_check.specs.Shown.{ComesLater, Moment, Shown}
 
 -- the beginning of a label
 unfoldable pub mark : List ℕ
@@ -78,26 +78,15 @@ TellsLabel None failures later volume told = ⊤
 TellsLabel (Some volumes) failures later volume told =
     (told ≡ label_line volume (volume_bytes volumes volume)) ⊎ ((told ≡ []) × (failures < later))
 
--- the same for volumes that the drive showed in the meantime
-pub record TellsBetween (earlier later : Option (List Volume)) (failures failed : ℕ) (volume told : List ℕ) : Type 0 where
-  pub shown : Option (List Volume)
-  pub grew : OnlyGrows earlier shown
-  pub grows : OnlyGrows shown later
-  pub tells : TellsLabel shown failures failed volume told
-
--- the lines about the volume of each piece
-abbrev pub TellLabels : Option (List Volume) → Option (List Volume) → ℕ → ℕ → List Piece → List (List ℕ) → Type 0
-TellLabels earlier later failures failed pieces told = AllZip (λ (p : Piece) t. TellsBetween earlier later failures failed p.volume t) pieces told
+-- the line about the volume of a piece, by a call between two moments of the drive
+pub record TellsVolume (before after : Moment) (piece : Piece) (told : List ℕ) : Type 0 where
+  pub later : ComesLater before after
+  pub tells : TellsLabel after.shows before.failures after.failures piece.volume told
 
 -- the line about a volume was appended
 abbrev pub AppendsLabel : Option (List Volume) → ℕ → ℕ → List ℕ → List ℕ → List ℕ → Type 0
 AppendsLabel shown failures failed volume before after = (told : List ℕ) × TellsLabel shown failures failed volume told × (after ≡ before ++ told)
 
--- the lines about the volume of each piece were appended
-abbrev pub AppendsLabels : Option (List Volume) → Option (List Volume) → ℕ → ℕ → List Piece → List ℕ → List ℕ → Type 0
-AppendsLabels earlier later failures failed pieces before after =
-    (told : List (List ℕ)) × TellLabels earlier later failures failed pieces told × (after ≡ before ++ flat_map (λ line. line) told)
-
--- the same, over the volumes that a drive may be taken to show
+-- the line about the volume of each piece was appended, one volume after the other
 abbrev pub LabelsOver : Shown → List Piece → List ℕ → List ℕ → Type 0
-LabelsOver s pieces before after = AppendsLabels s.earlier s.later s.failures s.failed pieces before after
+LabelsOver s pieces before after = AppendsInTurn TellsVolume s pieces before after

@@ -1,4 +1,5 @@
 pub mod Shown
+pub mod Calls
 pub mod Search
 pub mod Findings
 pub mod Copies

@@ -1,8 +1,11 @@
 //! The hits of each piece of a bootstrap, or why its volume can't be searched.
 ghost use Rattle.std.specs.Prelude.{◌≡◌, ◌++◌, ◌∷◌, [], ◌≤◌, IfOk, OnOk};
+ghost use Rattle.br_match.specs.Fault.{FailsWithDrive};
 ghost use Rattle.br_match.specs.Matching.{FoundOver};
+ghost use Rattle.br_match.specs.Walk.{NamesReached};
 ghost use Rattle.br_volume.specs.Drive.{OnlyGrows};
 ghost use Rattle.br_check.specs.Search.{AreSearched};
+ghost use Rattle.br_check.specs.Shown.{shown};
 
 use crate::light::append_light;
 use br_match::{Found, PieceFault, Walk};
@@ -17,9 +20,12 @@ use std::alloc::{AllocError, Global};
 ///
 /// Those of `match_piece`.
 fn search_piece<D: Drive>(alloc: Global, piece: &Piece, drive: &mut D) -> Result<Found, PieceFault>
+    ensures number { IfOk result (λ found. found.piece ≡ piece.now.number) }
     ensures hits { FoundOver (D.shows drive.old) (D.shows drive.new) piece.now result }
     ensures grows { OnlyGrows (D.shows drive.old) (D.shows drive.new) }
     ensures counted { D.failures drive.old ≤ D.failures drive.new }
+    ensures failed { FailsWithDrive D.failures drive.old drive.new result }
+    ensures named { NamesReached D.shows drive.old drive.new piece.now result }
 {
     let mut buf = Vec::new(alloc);
     let mut hits = Vec::new(alloc);
@@ -50,7 +56,7 @@ pub(crate) fn search<D: Drive>(
     pieces: &[Piece],
     drive: &mut D,
 ) -> Result<Vec<Result<Found, PieceFault>>, AllocError>
-    ensures searched { IfOk result (λ results. AreSearched (D.shows drive.old) (D.shows drive.new) pieces.now results.items) }
+    ensures searched { IfOk result (λ results. AreSearched (shown D.Drive drive.old drive.new) pieces.now results.items) }
     ensures grows { OnlyGrows (D.shows drive.old) (D.shows drive.new) }
     ensures counted { D.failures drive.old ≤ D.failures drive.new }
 {

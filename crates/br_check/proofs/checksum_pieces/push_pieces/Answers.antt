@@ -1,11 +1,13 @@
 use Rattle.std.proofs.Common.{arith}
 use Rattle.br_volume.proofs.ExtendLaws.{grows_itself, grows_more}
-use Rattle.br_check.proofs.PieceLaws.{none_told, piece_more}
+use Rattle.br_check.specs.ChecksumPieces.{TellsPiece}
+use Rattle.br_check.specs.Shown.{moment}
+use Rattle.br_check.proofs.CallLaws.{lines_more, none_told}
 use Rattle.br_check.proofs.checksum_pieces.push_pieces.Goals as goal
 
 pub loop-piece-init : goal.loop-piece-init
 loop-piece-init g c = record {
-  tells = none_told (g.D.Drive.shows c.args.drive.now) (g.D.Drive.failures c.args.drive.now) c.args.text.now.items;
+  tells = none_told TellsPiece (moment g.D.Drive c.args.drive.now) c.args.text.now.items;
   grows = grows_itself (g.D.Drive.shows c.args.drive.now);
   counted = omega arith;
 }
@@ -16,11 +18,13 @@ loop-piece-preserved g c =
     let second = g.D.Drive.shows c.loop-piece.drive in
     let third = g.D.Drive.shows c.push_piece.new.drive in
     let before = c.loop-piece.invariant in
+    let one = c.in_ok-push_piece.ensures.tells in
     record {
       tells =
-          piece_more first second third (g.D.Drive.failures c.args.drive.now) (g.D.Drive.failures c.loop-piece.drive) (g.D.Drive.failures c.push_piece.new.drive)
-          c.args.pieces.now c.loop-piece.piece-index c.piece-item.result c.args.text.now.items c.loop-piece.text.items c.push_piece.new.text.items c.loop-piece-test.true
-          c.piece-item.is before.grows c.push_piece.ensures.grows before.counted c.push_piece.ensures.counted before.tells c.in_ok-push_piece.ensures.tells;
+          lines_more TellsPiece (moment g.D.Drive c.args.drive.now) (moment g.D.Drive c.loop-piece.drive) (moment g.D.Drive c.push_piece.new.drive)
+          c.args.pieces.now c.loop-piece.piece-index c.piece-item.result c.args.text.now.items c.loop-piece.text.items c.push_piece.new.text.items one.0
+          c.loop-piece-test.true c.piece-item.is before.tells
+          (record { later = record { grows = c.push_piece.ensures.grows; counted = c.push_piece.ensures.counted }; tells = one.1 }) one.2;
       grows = grows_more first second third before.grows c.push_piece.ensures.grows;
       counted = omega (arith, before.counted, c.push_piece.ensures.counted);
     }

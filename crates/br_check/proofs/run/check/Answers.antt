@@ -3,6 +3,7 @@ use Rattle.std.proofs.lemmas.Result.{IfOk-weaker}
 use Rattle.br_model.specs.Bootstrap.{Group}
 use Rattle.br_volume.proofs.ExtendLaws.{grows_more}
 use Rattle.br_check.specs.Check.{IsChecked}
+use Rattle.br_check.specs.Shown.{moment}
 use Rattle.br_check.proofs.CheckLaws.{checked_over}
 use Rattle.br_check.proofs.run.check.Goals as goal
 
@@ -18,9 +19,9 @@ returns-clause-checked g c =
     let text = c.push_labels.new.text.items in
     IfOk-weaker c.checked_of.result _ _
     (λ checked done.
-    checked_over g.D.Drive.shows g.D.Drive.failures c.args.drive.now c.search.new.drive c.push_labels.new.drive groups c.args.counts.now c.args.budget c.deref.result.now c.deref-2.result.now results
-    c.new-labels.result.items text checked (c.deref.ensures.value ∙ c.in_ok-pieces.ensures) (c.deref-2.ensures.value ∙ c.in_ok-pieces.ensures) c.new-labels.ensures.items
-    c.search.ensures.grows c.push_labels.ensures.grows c.search.ensures.counted c.in_ok-results.ensures.searched c.in_ok-push_labels.ensures.tells
+    checked_over (moment g.D.Drive c.args.drive.now) (moment g.D.Drive c.search.new.drive) (moment g.D.Drive c.push_labels.new.drive) groups c.args.counts.now c.args.budget
+    c.deref.result.now c.deref-2.result.now results c.new-labels.result.items text checked (c.deref.ensures.value ∙ c.in_ok-pieces.ensures)
+    (c.deref-2.ensures.value ∙ c.in_ok-pieces.ensures) c.new-labels.ensures.items c.in_ok-results.ensures.searched c.in_ok-push_labels.ensures.tells
     (subst (λ (gs : List Group). IsChecked gs c.args.counts.now c.args.budget results text checked) c.groups.ensures.same
     (subst (λ (xs : List ℕ). IsChecked c.groups.result.now c.args.counts.now c.args.budget results xs checked) c.deref-3.ensures.value done)))
     c.checked_of.ensures

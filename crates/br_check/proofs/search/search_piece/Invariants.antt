@@ -1,6 +1,6 @@
 use Rattle.std.proofs.Common.{◌≡◌, ◌≤◌, ◌-◌, ◌^◌}
 use Rattle.br_volume.specs.Drive.{OnlyGrows}
-use Rattle.br_match.specs.Walk.{IsWalked, Over}
+use Rattle.br_match.specs.Walk.{ComesTo, IsWalked, Over}
 use Rattle.br_check.proofs.search.search_piece.Given as goal
 
 -- over all volumes that the drive may be taken to have shown so far, these hits were found before
@@ -9,6 +9,7 @@ abbrev pub invariant-loop-walk : goal.invariant-loop-walk
 invariant-loop-walk g l = record {
   of : l.walk.piece.now ≡ l.piece;
   walked : Over (g.D.Drive.shows l.initial.drive) (g.D.Drive.shows l.drive) l.piece (λ volumes. IsWalked volumes l.piece l.walk.addr l.hits.items);
+  come : Over (g.D.Drive.shows l.initial.drive) (g.D.Drive.shows l.drive) l.piece (λ volumes. ComesTo volumes l.piece l.walk.addr);
   grows : OnlyGrows (g.D.Drive.shows l.initial.drive) (g.D.Drive.shows l.drive);
   counted : g.D.Drive.failures l.initial.drive ≤ g.D.Drive.failures l.drive;
 }
