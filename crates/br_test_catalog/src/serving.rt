@@ -255,7 +255,7 @@ pub(crate) fn run<R: Threads + Wait + Copy + Send + 'static>(
         history: History::new(alloc),
     };
     let sessions = if watchers < 15 { watchers + 2 } else { 16 };
-    let volumes = MemVolumes::new(MemStore::new(alloc), 0);
+    let volumes = MemVolumes::new(MemStore::new(alloc), 0, 0);
     match Keeper::new(&rt, alloc, catalogue, volumes, sessions) {
         Ok((keeper, sessions)) => {
             let (keeper, right) = serve_sessions(rt, alloc, keeper, sessions, jobs);
