@@ -1,16 +1,19 @@
 /* Stops the program: preloaded, it ends the process at one of its calls that change a file, or lets
- * that call and each later one fail. STOPPED_CALL is its number, counted from 1, and STOPPED_WAY
- * how:
+ * that call fail, alone or with each later one. STOPPED_CALL is its number, counted from 1, and
+ * STOPPED_WAY how:
  *
  * - `before`: the process ends before the call.
  * - `within`: as `before`, but of a write half the bytes are written.
  * - `failing`: the call and each later one fails with EIO, and the process goes on.
+ * - `once`: the call alone fails with EIO. The next ones succeed, as after a write that the system
+ *   gave up.
  * - `lost`: as `failing`, but of the file STOPPED_FILE alone, whose calls are counted. When the process
  *   ends, what was written and not flushed is undone in each file whose path begins with STOPPED_LOST, as
  *   if the machine had stopped.
  *
- * A byte is appended to the file STOPPED_LOG at the stop. The calls are those that write, flush, cut,
- * make or remove files; what goes to the standard streams does not count. */
+ * At the stop a line is appended to the file STOPPED_LOG: the name of the call, and the path of its
+ * file. The calls are those that write, flush, cut, make or remove files; what goes to the standard
+ * streams does not count. */
 #define _GNU_SOURCE
 #include <dlfcn.h>
 #include <errno.h>
@@ -135,18 +138,25 @@ static void end_process(void)
         syscall(SYS_exit_group, 137);
 }
 
-static void note(void)
+/* Appends the line of a call: of an open file, or else of a path. */
+static void note(const char *call, int file, const char *path)
 {
-    const char *path = getenv("STOPPED_LOG");
-    int log = path == NULL ? -1 : (int)syscall(SYS_open, path, O_WRONLY | O_CREAT | O_APPEND, 0644);
-    if (log >= 0) {
-        (void)!syscall(SYS_write, log, "x", 1);
-        syscall(SYS_close, log);
-    }
+    const char *name = getenv("STOPPED_LOG");
+    int log = name == NULL ? -1 : (int)syscall(SYS_open, name, O_WRONLY | O_CREAT | O_APPEND, 0644);
+    char own[PATH_MAX], line[PATH_MAX + 64];
+    if (log < 0)
+        return;
+    if (file >= 0)
+        path_of(file, own);
+    snprintf(line, sizeof line, "%s %s\n", call, file >= 0 ? own : path);
+    (void)!syscall(SYS_write, log, line, strlen(line));
+    syscall(SYS_close, log);
 }
 
-/* Returns whether the call fails. Half of `bytes` is written at `place` if the process ends within a write. */
-static int is_stopped(int file, const void *bytes, size_t size, off_t place)
+/* Returns whether the call of this name fails: that of an open file, or else (-1) of a path. Half
+ * of `bytes` is written at `place` if the process ends within a write. */
+static int is_write_stopped(const char *call, int file, const char *path, const void *bytes,
+                            size_t size, off_t place)
 {
     if (stopped == 0) {
         const char *call = getenv("STOPPED_CALL");
@@ -158,9 +168,11 @@ static int is_stopped(int file, const void *bytes, size_t size, off_t place)
     made += 1;
     if (stopped < 0 || made < stopped)
         return 0;
+    if (made > stopped && strcmp(way, "once") == 0)
+        return 0;
     if (made == stopped)
-        note();
-    if (strcmp(way, "failing") == 0 || strcmp(way, "lost") == 0) {
+        note(call, file, path);
+    if (strcmp(way, "failing") == 0 || strcmp(way, "once") == 0 || strcmp(way, "lost") == 0) {
         errno = EIO;
         return 1;
     }
@@ -170,11 +182,17 @@ static int is_stopped(int file, const void *bytes, size_t size, off_t place)
     return 1;
 }
 
+/* Returns whether a call fails that writes no bytes. */
+static int is_stopped(const char *call, int file, const char *path)
+{
+    return is_write_stopped(call, file, path, NULL, 0, 0);
+}
+
 #define NEXT(name) ((__typeof__(&name))dlsym(RTLD_NEXT, #name))
 
 ssize_t pwrite(int file, const void *bytes, size_t size, off_t place)
 {
-    if (is_stopped(file, bytes, size, place))
+    if (is_write_stopped("pwrite", file, NULL, bytes, size, place))
         return -1;
     note_change(file, place, size);
     return NEXT(pwrite)(file, bytes, size, place);
@@ -182,14 +200,14 @@ ssize_t pwrite(int file, const void *bytes, size_t size, off_t place)
 
 ssize_t write(int file, const void *bytes, size_t size)
 {
-    if (file > 2 && is_stopped(file, NULL, 0, 0))
+    if (file > 2 && is_stopped("write", file, NULL))
         return -1;
     return syscall(SYS_write, file, bytes, size);
 }
 
 int fsync(int file)
 {
-    if (is_stopped(file, NULL, 0, 0) || NEXT(fsync)(file) != 0)
+    if (is_stopped("fsync", file, NULL) || NEXT(fsync)(file) != 0)
         return -1;
     forget_changes(file);
     return 0;
@@ -197,7 +215,7 @@ int fsync(int file)
 
 int fdatasync(int file)
 {
-    if (is_stopped(file, NULL, 0, 0) || NEXT(fdatasync)(file) != 0)
+    if (is_stopped("fdatasync", file, NULL) || NEXT(fdatasync)(file) != 0)
         return -1;
     forget_changes(file);
     return 0;
@@ -206,7 +224,7 @@ int fdatasync(int file)
 int ftruncate(int file, off_t size)
 {
     struct stat found;
-    if (is_stopped(file, NULL, 0, 0))
+    if (is_stopped("ftruncate", file, NULL))
         return -1;
     if (fstat(file, &found) == 0)
         note_change(file, size, found.st_size > size ? (size_t)(found.st_size - size) : 0);
@@ -215,12 +233,12 @@ int ftruncate(int file, off_t size)
 
 int unlink(const char *path)
 {
-    return is_stopped(-1, NULL, 0, 0) ? -1 : NEXT(unlink)(path);
+    return is_stopped("unlink", -1, path) ? -1 : NEXT(unlink)(path);
 }
 
 int mkdir(const char *path, mode_t mode)
 {
-    return is_stopped(-1, NULL, 0, 0) ? -1 : NEXT(mkdir)(path, mode);
+    return is_stopped("mkdir", -1, path) ? -1 : NEXT(mkdir)(path, mode);
 }
 
 int open(const char *path, int flags, ...)
@@ -230,7 +248,7 @@ int open(const char *path, int flags, ...)
     va_start(rest, flags);
     mode = flags & O_CREAT ? va_arg(rest, mode_t) : 0;
     va_end(rest);
-    if ((flags & O_CREAT) != 0 && is_stopped(-1, NULL, 0, 0))
+    if ((flags & O_CREAT) != 0 && is_stopped("open", -1, path))
         return -1;
     return (int)syscall(SYS_open, path, flags, mode);
 }

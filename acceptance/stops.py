@@ -15,7 +15,14 @@ another migration goes on from there. After an answer without a refusal it is of
 
 A script that commits two jobs to a catalogue and to a folder of volumes is stopped in the same ways. Afterwards the catalogue has the
 first 0, 1 or 2 of the jobs, each that was acknowledged among them, and a restore gives all that these jobs saved. The rows and the bytes
-of the volumes are those of these jobs by the second reading of scripts.
+of the volumes are those of these jobs by the second reading of scripts. If the calls fail, the first job that is not stored is refused
+with 44 if the first of these calls is of a path in the folder of volumes, and else with 45.
+
+A script of four jobs has each of its calls fail alone, so that the next ones succeed. If the call is of the folder of volumes or of a
+volume, the first job that is not stored is refused with 44, and each later job that names this volume with 43. If it is of the catalogue,
+the number is 45. The catalogue has the stored jobs and no other one; after 45 maybe also the first that was refused, since its rows may
+be in the log already. Of a sync of the volumes all is compared: what is printed, the rows and the bytes of the volumes are those of a
+second reading of scripts whose job is refused with 44, once all its blocks are appended.
 
 Migrations and commits are also stopped with the machine: the call of one of the catalogue's two files, and each later one of that file,
 fails, and when the program ends, what it wrote to either and did not flush is undone. The status is 1 if something differs.
@@ -36,12 +43,13 @@ sys.dont_write_bytecode = True
 sys.path.insert(0, os.path.join(os.path.dirname(os.path.dirname(os.path.abspath(__file__))), "tools"))
 from common import ORDER_SQL, PROGRAM, SETS, VERSION_1_SQL
 from preloaded import compiled
-from scripting import Script, put_line, served
+from scripting import Bad, Script, put_line, served
 from serving import wrong_volumes
 from stored import differences, memory, opened_copy, rows_by, volumes_of, vouched_by
 from stored import rows_of as sound_rows
 
 WAYS = ("before", "within", "failing")
+SYNCS = ("fsync", "fdatasync")
 # The machine stops: the calls of the log fail, or those of the database.
 LOST = ("lost-wal", "lost")
 REFUSED = (1, b"", b"refused 45\n")
@@ -193,9 +201,11 @@ def stop_migrations(given, folder, kept):
     return stops, wrong
 
 
-def job_lines(number, path, first, others):
+def job_lines(number, path, *volumes):
+    """Returns the lines of a job. Each volume gets a block, and the last one the rest."""
     head = b"job %d B %s T %d %d %d 64 c f" % (number, b"F" if number == 1 else b"I", 100 * number, number, 100 * number)
-    return [head, put_line(path, b"message digest"), b"place %s 1" % first, b"place %s 0" % others, b"end"]
+    places = [b"place %s %d" % (volume, volume != volumes[-1]) for volume in volumes]
+    return [head, put_line(path, b"message digest"), *places, b"end"]
 
 
 COMMITS = [*job_lines(1, b"/a", b"A", b"B"), *job_lines(2, b"/b", b"B", b"A")]
@@ -233,19 +243,32 @@ def new_places(folder):
     return catalogue, volumes
 
 
-def is_stop(found, way):
-    """Returns the number of jobs that a stopped script acknowledged, or None if it may not give
-    that."""
+def call_in(log):
+    """Returns the name and the path of the call that was stopped; nothing if there was none."""
+    return tuple(Path(log).read_text().removesuffix("\n").split(" ", 1)) if os.path.getsize(log) else ()
+
+
+def is_of_volumes(call, places):
+    """Returns whether a call is of the folder of volumes, or of a volume."""
+    return call[1] == places[1] or os.path.dirname(call[1]) == places[1]
+
+
+def is_stop(found, way, is_volumes):
+    """Returns the number of jobs that a script acknowledged which was stopped at a call of the volumes or of the catalogue, or None if it
+    may not give that."""
     status, printed, told = found
     stored = [line for line in printed.splitlines() if line.startswith(b"stored ")]
     others = [line for line in printed.splitlines() if not line.startswith(b"stored ")]
-    if way not in ("before", "within"):
-        # A volume to which an append failed is retired: a job that names it is refused 43.
-        lines = {b"refused 44", b"refused 45"} | ({b"refused 43"} if others[:1] == [b"refused 44"] else set())
-        is_refused = status == 1 and (told == b"refused 45\n" or (told == b"" and lines.issuperset(others)))
-        is_own = status == 0 and not others and told == b""
-        return len(stored) if (is_refused or is_own) and text_of(stored) in FRONTS else None
-    return len(stored) if status == 137 and told == b"" and printed in FRONTS else None
+    if text_of(stored) not in FRONTS:
+        return None
+    if way in ("before", "within"):
+        return len(stored) if status == 137 and told == b"" and not others else None
+    # Each later call fails, too. A volume to which an append failed is retired: a job that names it is refused 43.
+    lines = {b"refused 44", b"refused 45"} | ({b"refused 43"} if is_volumes else set())
+    is_first = others[:1] == [b"refused 44" if is_volumes else b"refused 45"] and lines.issuperset(others)
+    is_at_end = not is_volumes and not others
+    is_refused = status == 1 and (is_first and told in (b"", b"refused 45\n") or is_at_end and told == b"refused 45\n")
+    return len(stored) if is_refused or (status == 0 and is_at_end and told == b"") else None
 
 
 def wrong_rows(places, count):
@@ -270,19 +293,123 @@ def stop_commits(given, folder):
             call, places = call + 1, new_places(folder)
             Path(log).write_bytes(b"")
             found = serve(given, places, COMMITS, call, way, log)
-            was_stopped = os.path.getsize(log) > 0
+            stopped = call_in(log)
+            was_stopped = bool(stopped)
             stops += was_stopped
-            told = is_stop(found, way) if was_stopped else 2 if found == (0, FRONTS[2], b"") else None
+            if was_stopped:
+                told = is_stop(found, way, is_of_volumes(stopped, places))
+            else:
+                told = 2 if found == (0, FRONTS[2], b"") else None
             left = serve(given, places, RESTORE)
             count = next((count for count in range(3) if left == restored(count)), None)
             if told is None or count is None or count < told:
-                wrong.append(f"{way} call {call}: {found}, and then {left}")
+                wrong.append(f"{way} call {call} {stopped}: {found}, and then {left}")
             elif rows := wrong_rows(places, count):
                 wrong.append(f"{way} call {call}: {rows}")
             counts.append(count)
         if counts != sorted(counts, key=str) or set(counts) != {0, 1, 2} and way != "lost":
             wrong.append(f"{way}: the numbers of jobs are {counts}")
     return stops, wrong
+
+
+# The volumes of the places of four jobs. In this order they are synced.
+PLACES = ((1, b"A"), (1, b"B"), (2, b"B"), (2, b"A"), (3, b"A"), (4, b"B"))
+FOUR = [*COMMITS, *job_lines(3, b"/c", b"A"), *job_lines(4, b"/d", b"B")]
+
+
+class Unsynced(Script):
+    """Carries out a script in which a volume is not synced in the commit of a job, or none."""
+
+    def __init__(self, text, place):
+        super().__init__(text)
+        self.place = place
+
+    def commit(self, job):
+        super().commit(job)
+        if self.place and job["id"] == self.place[0]:
+            self.jobs.remove(job)
+            # No volume has this length, so a job that names it is refused 43.
+            self.vouched[self.place[1]] = -1
+            raise Bad(44)
+
+
+def wrong_left(places, allowed, whole=None):
+    """Returns the differences of what a call that failed alone left: the catalogue has one of these lists of jobs; and if a second reading
+    is given, the rows and volumes that it leaves."""
+    try:
+        rows = sound_rows(places[0])
+    except (sqlite3.Error, ValueError) as error:
+        return [error]
+    jobs = [row[0] for row in rows["Job"]]
+    wrong = [] if jobs in allowed else [f"the catalogue has the jobs {jobs}"]
+    return wrong + (differences(rows, rows_by(whole.jobs)) + differences(volumes_of(places[1]), whole.volumes) if whole else [])
+
+
+def wrong_catalogue_call(found, places, stored, others, first):
+    """Returns what is wrong after a call of the catalogue failed alone. A commit that is refused with 45 may leave the job's rows in the
+    log, from where the next start takes them."""
+    is_refused = found[0] == 1 and found[2] in (b"", REFUSED[2]) and (others[:1] == [b"refused 45"] or not others and found[2])
+    is_own = (found[0], found[2], others) == (0, b"", [])
+    wrong = [] if is_refused or is_own else [found]
+    return wrong + wrong_left(places, [stored, sorted([*stored, first])] if others else [stored])
+
+
+def wrong_append(found, call, places, stored, others, first):
+    """Returns what is wrong after a volume could not be made, or appended to, by a call that failed alone."""
+    volume = os.fsencode(os.path.basename(call[1]))
+    later = {number for number, name in PLACES if name == volume and number > first}
+    lines = found[1].splitlines()
+    is_refused = (found[0], found[2], others[:1]) == (1, b"", [b"refused 44"]) and all(lines[it - 1 : it] == [b"refused 43"] for it in later)
+    return ([] if is_refused else [found]) + wrong_left(places, [stored])
+
+
+def wrong_sync(found, call, places, stored, synced):
+    """Returns what is wrong after a sync of the folder or of a volume failed alone, which is that of the next place."""
+    place = dict(enumerate(PLACES)).get(synced, (0, b""))
+    whole = Unsynced(text_of(FOUR), place)
+    expected = *whole.run(), b""
+    wrong = [] if found == expected else [f"{found}, and not {expected}"]
+    wrong += [] if call[1] in (places[1], os.path.join(places[1], os.fsdecode(place[1]))) else [f"and not of {place[1]}"]
+    return wrong + wrong_left(places, [stored], whole)
+
+
+def wrong_failure(found, call, places, synced):
+    """Returns what is wrong with what a script printed and left of which a call failed alone, after this number of volumes was synced."""
+    lines = found[1].splitlines()
+    stored = [int(line.removeprefix(b"stored ")) for line in lines if line.startswith(b"stored ")]
+    others = [line for line in lines if not line.startswith(b"stored ")]
+    first = next((number for number, line in enumerate(lines, 1) if line in others), 0)
+    if not is_of_volumes(call, places):
+        return wrong_catalogue_call(found, places, stored, others, first)
+    if call[0] not in SYNCS:
+        return wrong_append(found, call, places, stored, others, first)
+    return wrong_sync(found, call, places, stored, synced)
+
+
+def fail_once(given, folder):
+    """Lets each call of four commits fail alone. Returns the number of these calls, and the differences."""
+    wrong, log, calls, was_stopped = [], os.path.join(folder, "..", "log"), [], True
+    whole = Unsynced(text_of(FOUR), None)
+    expected = *whole.run(), b""
+    while was_stopped:
+        places = new_places(folder)
+        Path(log).write_bytes(b"")
+        found = serve(given, places, FOUR, len(calls) + 1, "once", log)
+        was_stopped = bool(call := call_in(log))
+        # What was appended to the log of the catalogue goes into its file.
+        again = serve(given, places, [])
+        synced = sum(name in SYNCS and os.path.dirname(path) == places[1] for name, path in calls)
+        if was_stopped:
+            faults = wrong_failure(found, call, places, synced)
+            calls.append(call)
+        else:
+            faults = ([] if found == expected else [f"without a stop: {found}"]) + wrong_left(places, [[1, 2, 3, 4]], whole)
+        faults += [] if again == (0, b"", b"") else [f"and then {again}"]
+        wrong += [f"once call {len(calls)} {call}: {fault}" for fault in faults]
+    syncs = [path for name, path in calls if name in SYNCS and is_of_volumes((name, path), places)]
+    if len(syncs) != 2 * len(PLACES):
+        wrong.append(f"once: the volumes are synced by {syncs}")
+    return len(calls), wrong
 
 
 def catalogues(given, folder):
@@ -319,8 +446,9 @@ def migrations(given, folder):
 
 
 def commits(given, folder):
-    """Stops the commits of two jobs. Returns the number that differed."""
-    return told("two commits", *stop_commits(given, os.path.join(folder, "run")))
+    """Stops the commits of two jobs, and lets calls of four fail alone. Returns the number that differed."""
+    run = os.path.join(folder, "run")
+    return told("two commits", *stop_commits(given, run)) + told("four commits, a call fails alone", *fail_once(given, run))
 
 
 PARTS = {it.__name__: it for it in (openings, migrations, commits)}
