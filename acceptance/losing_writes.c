@@ -6,18 +6,21 @@
  *     append PLACE SIZE PATH    SIZE bytes were written at the file's end; they come after the line
  *     write PLACE SIZE PATH     the same anywhere in the file
  *     length SIZE 0 PATH        the file was cut, or made longer by zeros
- *     make 0 0 PATH             the file or folder was made
+ *     make 0 0 PATH             the file was made
+ *     folder 0 0 PATH           the folder was made
  *     remove 0 0 PATH           its name was removed
  *     rename 0 0 PATH           the file got the name of the next line, `to 0 0 PATH`
  *     sync 0 0 PATH             the file's bytes were synced, or the names of the folder
- *     print 0 0 -               something was written to standard output
+ *     print 0 SIZE -            SIZE bytes were written to standard output
  *
- * `losses.py` reads the record, and drops what was not synced. */
+ * One thread at a time makes such a call, so the record has their order. `losses.py` reads it, and
+ * drops what was not synced. */
 #define _GNU_SOURCE
 #include <dlfcn.h>
 #include <errno.h>
 #include <fcntl.h>
 #include <limits.h>
+#include <pthread.h>
 #include <stdarg.h>
 #include <stdio.h>
 #include <stdlib.h>
@@ -30,15 +33,23 @@
 #define NEXT(name) ((__typeof__(&name))dlsym(RTLD_NEXT, #name))
 
 static long made;
+static pthread_mutex_t lock = PTHREAD_MUTEX_INITIALIZER;
 
-/* Ends the process if this call is the one. */
-static void count(void)
+/* Begins a call of which a record is kept. Ends the process if it is the one. */
+static void begin_call(void)
 {
     const char *call = getenv("LOSING_CALL");
+    pthread_mutex_lock(&lock);
     made += 1;
     if (call != NULL && made == atol(call))
         for (;;)
             syscall(SYS_exit_group, 137);
+}
+
+/* Ends a call: other threads may make theirs. */
+static void end_call(void)
+{
+    pthread_mutex_unlock(&lock);
 }
 
 /* Returns whether the path is below the folder. */
@@ -94,14 +105,16 @@ ssize_t write(int file, const void *bytes, size_t size)
     int own = path_of(file, path);
     long place;
     ssize_t done;
-    if (file == 1 || own)
-        count();
+    if (file != 1 && !own)
+        return syscall(SYS_write, file, bytes, size);
+    begin_call();
     place = own && is_append && fstat(file, &found) == 0 ? (long)found.st_size : (long)lseek(file, 0, SEEK_CUR);
     done = syscall(SYS_write, file, bytes, size);
-    if (file == 1)
-        record("print", 0, "", 0, "-");
-    else if (own && done > 0)
+    if (done > 0 && file == 1)
+        record("print", 0, bytes, done, "-");
+    else if (done > 0)
         record(is_append ? "append" : "write", place, bytes, done, path);
+    end_call();
     return done;
 }
 
@@ -117,13 +130,14 @@ ssize_t writev(int file, const struct iovec *parts, int count_of_parts)
 static ssize_t write_at(int file, const void *bytes, size_t size, off_t place)
 {
     char path[PATH_MAX];
-    int own = path_of(file, path);
     ssize_t done;
-    if (own)
-        count();
+    if (!path_of(file, path))
+        return syscall(SYS_pwrite64, file, bytes, size, place);
+    begin_call();
     done = syscall(SYS_pwrite64, file, bytes, size, place);
-    if (own && done > 0)
+    if (done > 0)
         record("write", place, bytes, done, path);
+    end_call();
     return done;
 }
 
@@ -140,13 +154,14 @@ ssize_t pwrite64(int file, const void *bytes, size_t size, off64_t place)
 static int cut(int file, off_t size)
 {
     char path[PATH_MAX];
-    int own = path_of(file, path);
     int done;
-    if (own)
-        count();
+    if (!path_of(file, path))
+        return (int)syscall(SYS_ftruncate, file, size);
+    begin_call();
     done = (int)syscall(SYS_ftruncate, file, size);
-    if (own && done == 0)
+    if (done == 0)
         record("length", size, "", 0, path);
+    end_call();
     return done;
 }
 
@@ -163,13 +178,14 @@ int ftruncate64(int file, off64_t size)
 static int sync_by(long call, int file)
 {
     char path[PATH_MAX];
-    int own = path_of(file, path);
     int done;
-    if (own)
-        count();
+    if (!path_of(file, path))
+        return (int)syscall(call, file);
+    begin_call();
     done = (int)syscall(call, file);
-    if (own && done == 0)
+    if (done == 0)
         record("sync", 0, "", 0, path);
+    end_call();
     return done;
 }
 
@@ -187,19 +203,20 @@ int fdatasync(int file)
 static int opened(int folder, const char *path, int flags, mode_t mode)
 {
     char own[PATH_MAX];
-    int changes = (flags & (O_CREAT | O_TRUNC)) != 0 && is_ours(path);
-    int was = changes ? faccessat(folder, path, F_OK, AT_SYMLINK_NOFOLLOW) == 0 : 1;
-    int file;
-    if (changes)
-        count();
+    int was, file;
+    if ((flags & (O_CREAT | O_TRUNC)) == 0 || !is_ours(path))
+        return (int)syscall(SYS_openat, folder, path, flags, mode);
+    begin_call();
+    was = faccessat(folder, path, F_OK, AT_SYMLINK_NOFOLLOW) == 0;
     file = (int)syscall(SYS_openat, folder, path, flags, mode);
-    if (file < 0 || !changes)
-        return file;
-    path_of(file, own);
-    if (!was)
-        record("make", 0, "", 0, own);
-    else if ((flags & O_TRUNC) != 0)
-        record("length", 0, "", 0, own);
+    if (file >= 0) {
+        path_of(file, own);
+        if (!was)
+            record("make", 0, "", 0, own);
+        else if ((flags & O_TRUNC) != 0)
+            record("length", 0, "", 0, own);
+    }
+    end_call();
     return file;
 }
 
@@ -242,34 +259,40 @@ int openat64(int folder, const char *path, int flags, ...)
 int unlink(const char *path)
 {
     int done;
-    if (is_ours(path))
-        count();
+    if (!is_ours(path))
+        return NEXT(unlink)(path);
+    begin_call();
     done = NEXT(unlink)(path);
-    if (done == 0 && is_ours(path))
+    if (done == 0)
         record("remove", 0, "", 0, path);
+    end_call();
     return done;
 }
 
 int mkdir(const char *path, mode_t mode)
 {
     int done;
-    if (is_ours(path))
-        count();
+    if (!is_ours(path))
+        return NEXT(mkdir)(path, mode);
+    begin_call();
     done = NEXT(mkdir)(path, mode);
-    if (done == 0 && is_ours(path))
-        record("make", 0, "", 0, path);
+    if (done == 0)
+        record("folder", 0, "", 0, path);
+    end_call();
     return done;
 }
 
 int rename(const char *from, const char *to)
 {
     int done;
-    if (is_ours(from))
-        count();
+    if (!is_ours(from))
+        return NEXT(rename)(from, to);
+    begin_call();
     done = NEXT(rename)(from, to);
-    if (done == 0 && is_ours(from)) {
+    if (done == 0) {
         record("rename", 0, "", 0, from);
         record("to", 0, "", 0, to);
     }
+    end_call();
     return done;
 }
