@@ -8,8 +8,8 @@ The log of a whole restore is compared line by line with docs/formats.md, and th
 refusal with the table of docs/RESTORING.md. `stopping_calls.c`, which is compiled and preloaded,
 ends the process before each of its calls that change a file: then each file that the log names is
 complete in the folder, and of the others there are no more than the log may lack. Standard output
-and standard error are those of the same restore without a log. The status is 1 if something
-differs.
+and standard error are those of the same restore without a log, also if the log is a pipe. The
+status is 1 if something differs.
 """
 
 import argparse
@@ -197,6 +197,21 @@ def checks_faults(checks):
         checks.check_run("a bootstrap that is missing", folder, [], plain, told)
 
 
+def checks_pipe(checks):
+    """A log that is a pipe, which is read: it has no sync, and nothing is told of that."""
+    with tempfile.TemporaryDirectory() as made:
+        folder = Path(made)
+        manifest, into, pipe = write_volume(folder, SOME), folder / "into", folder / "pipe"
+        into.mkdir()
+        os.mkfifo(pipe)
+        # The lines are few: all of them have room in the pipe.
+        reader = os.open(pipe, os.O_RDONLY | os.O_NONBLOCK)
+        checks.check("a log to a pipe", (checks.extract(folder, "--into", into, "--log", pipe), held(into)), ((0, manifest, b""), dict(SOME)))
+        with open(reader, "rb") as lines:
+            told = lines.read().decode()
+        checks.check("and what was read from it", told.splitlines(), [*puts(SOME), *count(3, 3)])
+
+
 def strange(session, index, path, known=True):
     """The block of a file that can't be restored: its attributes, unless they are not known, and a record of a stream that is not supported."""
     kept = records(index, file_of(path, b"")) if known else record(index, 2, b"x")
@@ -300,6 +315,7 @@ def main():
     checks_disks(checks)
     checks_denied(checks)
     checks_faults(checks)
+    checks_pipe(checks)
     checks_lost(checks)
     checks_console(checks)
     with tempfile.TemporaryDirectory() as folder:
