@@ -52,7 +52,7 @@ pub trait Settle: Flush {
     /// Flushes the writer, and makes durable what was written.
     fn settle(&mut self) -> io::Result<()>
         ensures bytes { Keeps (Self.contents self.old) (Self.contents self.new) }
-        ensures flushed { IfOk result (λ _. is_flushed self.new) }
+        ensures flushed { IfOk result (λ _. Self.is_flushed self.new) }
         ensures settled { IfOk result (λ _. is_settled self.new) };
 }
 
