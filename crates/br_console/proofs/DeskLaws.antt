@@ -1,5 +1,5 @@
 -- What a keeper does leaves its list the one that its session reads.
-use Rattle.std.proofs.Common.{◌≡◌, ◌∙◌, ap, sym, ℕ, inl, inr, List, [], ◌∷◌, Option, Some, None, Result, Ok, Err}
+use Rattle.std.proofs.Common.{◌≡◌, ◌∙◌, ap, subst, sym, ℕ, inl, inr, List, [], ◌∷◌, Option, Some, None, Result, Ok, Err}
 use Rattle.std.specs.Prelude.{IfErr, IfOk, MatchOption}
 use Rattle.std.specs.List.{AllByRecursion}
 use Rattle.br_model.specs.Volume.{Volume}
@@ -112,3 +112,8 @@ module _ {C W : Type 0} (inserts refuses : JobRows → C → C → Type 0) where
       | inl same ↦ rw same (so_far.0, so_far.1, all_on before after sees so_far.0 so_far.2)
       | inr one ↦ (one.0 ∷ so_far.0, (middle, so_far.1, one.1), (one.2, all_on before after sees so_far.0 so_far.2))
     ]
+
+-- a commit that was refused is the same for a keeper that stayed
+pub refused_stays : {C W : Type 0} (inserts refuses : JobRows → C → C → Type 0) (shelf : Keeping C W → Shelf) (c : ToCommit) (old new later : Keeping C W) (why : KeeperFault)
+    → later ≡ new → Commits inserts refuses shelf c old new (Err why) → Commits inserts refuses shelf c old later (Err why)
+refused_stays inserts refuses shelf c old new later why is commits = subst (λ k. Commits inserts refuses shelf c old k (Err why)) (sym is) commits
