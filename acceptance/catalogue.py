@@ -325,7 +325,9 @@ def migrates(checks, folder):
     checks.check("of a file that is not there", checks.migrate(os.path.join(folder, "missing.db")), (1, "", "refused 45\n"))
     empty = os.path.join(folder, "nothing.db")
     open(empty, "w").close()
-    checks.check("of an empty file", checks.migrate(empty), (1, "", "refused 47\n"))
+    checks.check("a session over an empty file", checks.console(empty), (1, "", "refused 45\n"))
+    checks.check("and its jobs", checks.jobs(empty), (1, "", "refused 45\n"))
+    checks.check("a migration of it", checks.migrate(empty), (1, "", "refused 47\n"))
     checks.check("which stays without jobs", checks.console(empty), (1, "", "refused 53\n"))
     for name, change, number in NOT_MIGRATED:
         other = new_db(folder, VERSION_1_SQL, change)

@@ -25,7 +25,7 @@ from cases import unpack
 from common import CASES, MIB, PROGRAM, SETS, Checks, unescaped
 from delivered import is_on_the_way
 from leaving import file_of, write_volume
-from odd import line as manifest_line, record, records
+from odd import line as manifest_line, record, records, write_case
 from reading import Fault, groups_of, walk
 
 NAME = "Vol-0001"
@@ -339,6 +339,17 @@ def checks_counts(checks, folder):
         checks.check(f"two volumes of {counts} files", checks.run(made / "x.bsr", made / "volumes"), (1 if expected else 0, lines, ""))
 
 
+def checks_kinds(checks, folder):
+    """Files of each type: what a folder skips, and two files that it can't take."""
+    case, volumes = write_case(folder)
+    manifest = (case / "expected").read_text()
+    paths = {int(line.split(" ")[3]): line.split(" ")[5] for line in manifest.splitlines() if line.startswith("F ")}
+    words = {3: "name", 7: "skipped", 8: "skipped", 9: "skipped", 10: "skipped", 11: "skipped", 6: "long"}
+    lines = "".join(f"{word} 1 100 {index} {paths[index]}\n" for index, word in words.items())
+    lines = with_memory(lines + found(manifest)[1], case / "x.bsr", volumes, manifest)
+    checks.check("files of each type", checks.run(case / "x.bsr", volumes), (1, lines, ""))
+
+
 def checks_mistakes(checks, folder):
     """Other files that an operator may give as the bootstrap or its volumes."""
     bsr = Path(CASES) / "order-inc" / "x.bsr"
@@ -346,7 +357,8 @@ def checks_mistakes(checks, folder):
     lines = bsr.read_text()
     spoilt = volumes / "spoilt.bsr"
     for name, text, expected in [
-        ("an empty bootstrap", "", (0, f"memory {64 * MIB}\ntotal 0 0\n", "")),
+        ("an empty bootstrap", "", (1, f"empty\nmemory {64 * MIB}\ntotal 0 0\n", "")),
+        ("one with a comment alone", "# none\n", (1, f"empty\nmemory {64 * MIB}\ntotal 0 0\n", "")),
         ("a line that is not supported", lines + "Job=1\n", (1, "", f"refused 32 line {len(lines.splitlines()) + 1}\n")),
         ("an unknown word in the first line", "Volumes=A\n" + lines, (1, "", "refused 31 line 1\n")),
     ]:
@@ -375,6 +387,7 @@ def main():
         checks_long(checks, Path(folder))
         checks_conflicts(checks, Path(folder))
         checks_counts(checks, Path(folder))
+        checks_kinds(checks, Path(folder))
         checks_mistakes(checks, Path(folder))
     return 1 if checks.failed else 0
 

@@ -180,6 +180,14 @@ def extracts(checks, folder):
         checks.check(name, (found, place.files()), ((status, printed, told), files))
     place = Place(folder, PLAIN)
     checks.check("without a folder", run(checks, extract_words(place, b"Volume=V\n")), (0, both() + TWO, b""))
+    for name, lines, expected in [
+        ("a bootstrap on standard input", b"Volume=V\n", (0, both() + TWO, b"")),
+        ("one with a line that is not supported", b"Volume=V\nJob=1\n", (1, b"", b"refused 32 line 2\n")),
+    ]:
+        words = ["extract", "--bsr", "-", "--volumes", place.volumes]
+        checks.check(name, run(checks, words, lines), expected)
+    found = run(checks, ["check", "--bsr", "-", "--volumes", place.volumes], b"Volume=V\n")
+    checks.check("a check of one", found, (0, b"memory 67110480\ntotal 2 10\n", b""))
     checks.check("no file is delivered", place.files(), {})
     words = ["extract", "--bsr", place.folder / "no.bsr", "--volumes", place.volumes, "--into", place.volumes]
     checks.check("a filled folder, and no bootstrap", run(checks, words), (1, b"", b"refused 81\n"))

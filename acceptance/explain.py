@@ -4,8 +4,8 @@
     acceptance/explain.py [EXECUTABLE]
 
 Without an executable it is the proved program, or else the one that tools/build makes. The table is printed whole, and
-each number alone. A number that the table lacks has to be refused with status 1, a word that is no number with status 2, and
-`--help` has to name the command. The status is 0 if all is as expected, else 1.
+each number alone. A number that the table lacks has to be refused with status 2, as a word that is no number, and `--help` has to name
+the command. The status is 0 if all is as expected, else 1.
 """
 import os
 import re
@@ -68,7 +68,7 @@ def differences(program):
             yield f"explain {row[0]}"
     for number in sorted(set(range(100)) - set(numbers)) + [4294967295]:
         status, output, refusal = run(program, "explain", str(number))
-        if (status, output) != (1, "") or refusal.count("\n") != 1:
+        if (status, output) != (2, "") or refusal.count("\n") != 1:
             yield f"explain {number}"
     if run(program, "explain", "x")[:2] != (2, ""):
         yield "explain x"

@@ -170,7 +170,7 @@ def check(place, fields, _wanted):
 def explanation(place, fields, _wanted):
     """Prints the output of `explain` for a number, or `none`."""
     status, output, _ = place.run("explain", fields[1])
-    return printed(output) if status == 0 else "none" if (status, output) == (1, b"") else printed(output)
+    return printed(output) if status == 0 else "none" if (status, output) == (2, b"") else printed(output)
 
 
 # Volumes in memory, files and sessions.

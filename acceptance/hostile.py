@@ -136,17 +136,23 @@ def lines_of_4096(runs):
 
 
 TOO_LONG = b"refused 34 line %d\n"
+# What is told of a bootstrap that is no file.
+NO_FILE = "brestore: %s: no regular file; - stands for standard input\n"
 
 
 def endless(runs):
-    """Bootstraps whose last line has no end, from a device and from pipes: refused as soon as that
-    line is too long, or by an earlier line."""
+    """Bootstraps whose last line has no end, from a device and from pipes on standard input: refused as soon as that
+    line is too long, or by an earlier line. As files neither is opened."""
     Path(runs.folder, "volumes").mkdir(exist_ok=True)
     device, pipe = Path(runs.folder) / "device", os.path.join(runs.folder, "pipe")
     device.symlink_to("/dev/zero")
     os.mkfifo(pipe)
     for path in ("/dev/zero", str(device)):
-        runs.compare(path, runs.run(extract_words(runs, path)), (1, b"", TOO_LONG % 1))
+        runs.compare(f"standard input from {path}", runs.run(extract_words(runs, "-"), path), (1, b"", TOO_LONG % 1))
+    # Nobody writes to the pipe.
+    for path in ("/dev/zero", str(device), pipe):
+        for words in (extract_words(runs, path), ["check", *extract_words(runs, path)[1:]]):
+            runs.compare(f"{words[0]} by {path}", runs.run(words), (3, b"", (NO_FILE % path).encode()))
     for label, front, letter, told in (
         ("letters", b"", "a", TOO_LONG % 1),
         ("CRs", b"", "\\r", TOO_LONG % 1),
@@ -181,9 +187,9 @@ def extract_words(runs, bootstrap):
 
 
 def run_fed(runs, pipe, feed, lines):
-    """Runs `extract` by a pipe that a command of the shell writes to, which ends with the program."""
+    """Runs `extract` with standard input from a pipe that a command of the shell writes to, which ends with the program."""
     with lines.open("rb") as given, subprocess.Popen(["timeout", "120", "sh", "-c", feed], stdin=given, stderr=subprocess.DEVNULL):
-        return runs.run(extract_words(runs, pipe))
+        return runs.run(extract_words(runs, "-"), pipe)
 
 
 def many_groups(runs):
@@ -334,10 +340,8 @@ def odd_places(runs):
         make(odd)
         runs.compare(f"a catalogue: {label}", runs.run(console, before=as_nobody(runs)), (1, b"", b"refused 45\n"))
         runs.compare(f"a catalogue to migrate: {label}", runs.run(["migrate", "--db", str(odd)], before=as_nobody(runs)), (1, b"", b"refused 45\n"))
-        if label not in ("a pipe", "a link to a device"):
-            # A bootstrap may come from a pipe or a device (`endless`).
-            status, printed, told = runs.run([*extract, str(odd)], before=as_nobody(runs))
-            runs.compare(f"a bootstrap: {label}", (status, printed, told.startswith(b"brestore: ")), (3, b"", True))
+        status, printed, told = runs.run([*extract, str(odd)], before=as_nobody(runs))
+        runs.compare(f"a bootstrap: {label}", (status, printed, told.startswith(b"brestore: ")), (3, b"", True))
         for option in ("--into", "--tar"):
             if label != "nothing" and (option, label) != ("--into", "a folder"):
                 words = [*extract, runs.write("x.bsr", b""), option, str(odd)]

@@ -19,6 +19,7 @@ import sqlite3
 import subprocess
 import sys
 import tempfile
+import threading
 
 # Nothing is left beside the script.
 sys.dont_write_bytecode = True
@@ -588,12 +589,47 @@ def refuses(checks, source, folder):
     for name, words, status in failing:
         found = run_import(checks, db, *words)
         checks.check(name, (found[:2], found[2].count("import.sh: ") > 0, os.path.exists(db)), ((status, ""), True, False))
+    says_why(checks, source, folder, db)
     checks.check("leave nothing", [it for it in os.listdir(folder) if it.startswith("new.db")], [])
     lost(checks, source, db)
+    if source.name == "SQLite":
+        waits(checks, source, db)
     if source.name != "SQLite":
         cut(checks, source, folder, db)
     if source.name == "MariaDB":
         warns(checks, source, db)
+
+
+def says_why(checks, source, folder, db):
+    """Compares what imports say on standard error that take no job, or lack a file or a program."""
+    text = "import.sh: there is no job to take of this client and file set after this moment. The database has:\nclient mars-fd\nfile set Home\n"
+    checks.check("the names that there are", run_import(checks, db, *source.words, "--client", "Mars-fd"), (3, "", text))
+    found = run_import(checks, db, *source.words, "--program", "/nowhere")
+    checks.check("no program", found, (3, "", "import.sh: there is no /nowhere: put its folder into PATH, or give --program FILE\n"))
+    rows = base()
+    rows["Job"] = [job(1, b"F", Type=b"C"), job(2, Type=b"R")]
+    source.fill(rows, False)
+    text = "type 1 3\ntype 2 1\nimport.sh: there is no job to take\n"
+    checks.check("why each job is left out", run_import(checks, db, *source.words), (3, "", text))
+    link = os.path.join(folder, "link")
+    if not os.path.lexists(link):
+        os.symlink(SCRIPT, link)
+    ran = subprocess.run([link, db, *source.words], capture_output=True, text=True)
+    text = f"import.sh: {folder}/stage.sql is missing: call the script by its own path, not by a link\n"
+    checks.check("a link to the script", (ran.returncode, ran.stdout, ran.stderr), (3, "", text))
+
+
+def waits(checks, source, db):
+    """Imports while another process writes the database for a second, and no one may read it."""
+    source.fill(base(), True)
+    with contextlib.closing(sqlite3.connect(source.file, isolation_level=None, check_same_thread=False)) as connection:
+        connection.execute("BEGIN EXCLUSIVE")
+        ending = threading.Timer(1, connection.execute, ["COMMIT"])
+        ending.start()
+        checks.check("a database that is being written", run_import(checks, db, *source.words), (0, "imported 2 4\n", ""))
+        ending.join()
+    if os.path.exists(db):
+        os.remove(db)
 
 
 def refusing_program(checks, folder):

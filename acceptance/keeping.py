@@ -45,9 +45,9 @@ STAT = [0, 0, 33188, 1, 0, 0, 0, 14, 0, 0, 0, 0, 0, 0]
 JOBS = {1: (b"/a", ("A", 1), ("B", None)), 2: (b"/b", ("B", 1), ("A", None)), 3: (b"/c", ("C", None)), 4: (b"/d", ("A", 2), ("B", None))}
 # The deeds of each keeper, and whether it continues from what the previous one left.
 PARTS = (
-    (False, ("learn 1", "republish", "commit 1", "append", "commit 2", "republish", "commit 3")),
+    (False, ("learn 1", "republish", "republish", "commit 1", "append", "commit 2", "republish", "commit 3")),
     (True, ("learn 4", "commit 3", "commit 2", "republish")),
-    (False, ("learn 1", "commit 1", "commit 2", "commit 3", "republish")),
+    (False, ("learn 1", "commit 1", "republish", "commit 2", "commit 3", "republish")),
 )
 NUMBERS = {"1", "44", "45", "46"}
 

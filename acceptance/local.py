@@ -25,9 +25,9 @@ ZONES = "/usr/share/zoneinfo"
 BERLIN = os.path.join(ZONES, "Europe", "Berlin")
 # A winter's evening in UTC, which is the next day in Berlin; a summer's evening; the last second of the calendar.
 MOMENTS = ["2026-11-21 23:15:33", "2026-07-01 22:30:00", "9999-12-31 23:59:59"]
-IN_BERLIN = ["2026-11-22T00:15:33+01:00", "2026-07-02T00:30:00+02:00", "-"]
-IN_UTC = ["2026-11-21T23:15:33+00:00", "2026-07-01T22:30:00+00:00", "-"]
-UNKNOWN = ["-", "-", "-"]
+IN_BERLIN = ["2026-11-22 00:15:33+01:00", "2026-07-02 00:30:00+02:00", "- -"]
+IN_UTC = ["2026-11-21 23:15:33+00:00", "2026-07-01 22:30:00+00:00", "- -"]
+UNKNOWN = ["- -", "- -", "- -"]
 # For each `TZ`, what is shown of each moment.
 NAMED = {
     "Europe/Berlin": IN_BERLIN,
@@ -38,7 +38,7 @@ NAMED = {
     "Etc/UTC": IN_UTC,
     "UTC0": IN_UTC,
     "": IN_UTC,
-    "<-0330>3:30": ["2026-11-21T19:45:33-03:30", "2026-07-01T19:00:00-03:30", "-"],
+    "<-0330>3:30": ["2026-11-21 19:45:33-03:30", "2026-07-01 19:00:00-03:30", "- -"],
     "Nowhere/Land": UNKNOWN,
     "Nowhere": UNKNOWN,
     "/nowhere": UNKNOWN,
@@ -67,7 +67,7 @@ def seconds_of(moment):
 def shown_in(zone, seconds):
     """Returns a moment in a zone, as Python works it out."""
     moment = datetime.datetime.fromtimestamp(seconds, datetime.timezone.utc).astimezone(zoneinfo.ZoneInfo(zone))
-    return moment.isoformat()
+    return moment.isoformat(" ")
 
 
 def sqlite3(db, text):
@@ -120,10 +120,10 @@ def places(checks, db, folder):
     set_moments(db, [seconds_of(it) for it in MOMENTS])
     environment = {name: value for name, value in os.environ.items() if name != "TZ"}
     told = [
-        subprocess.run(["date", "--iso-8601=seconds", "-d", f"@{seconds_of(it)}"], capture_output=True, text=True, check=True, env=environment).stdout.strip()
+        subprocess.run(["date", "--rfc-3339=seconds", "-d", f"@{seconds_of(it)}"], capture_output=True, text=True, check=True, env=environment).stdout.strip()
         for it in MOMENTS[:2]
     ]
-    checks.check("without TZ", checks.jobs(db, "--local"), (0, checks.local(db, [*told, "-"]), ""))
+    checks.check("without TZ", checks.jobs(db, "--local"), (0, checks.local(db, [*told, "- -"]), ""))
     zones = os.path.join(folder, "zones")
     os.makedirs(os.path.join(zones, "Test"))
     shutil.copy(BERLIN, os.path.join(zones, "Test", "Zone"))
@@ -136,7 +136,7 @@ def places(checks, db, folder):
 def chooses(checks, db):
     """Lists jobs, some of which are chosen. The moment of `--before` is in UTC."""
     set_moments(db, [seconds_of(it) for it in ("2026-11-21 23:15:33", "2026-07-01 22:30:00", "2026-11-22 00:00:00")])
-    lines = checks.local(db, ["2026-11-22T00:15:33+01:00", "2026-07-02T00:30:00+02:00", "2026-11-22T01:00:00+01:00"]).splitlines(keepends=True)
+    lines = checks.local(db, ["2026-11-22 00:15:33+01:00", "2026-07-02 00:30:00+02:00", "2026-11-22 01:00:00+01:00"]).splitlines(keepends=True)
     full, differential = lines[0].replace("-", "*", 1), lines[1]
     for name, client, fileset, before, expected in [
         ("a Full that is chosen", "peer-fd", "Peer", "2026-11-22 00:00:00", (0, full + differential, "")),

@@ -26,7 +26,7 @@ from bacula import block_of, volume_label
 from common import CASES, ORDER_SQL, PROGRAM, SETS, escaped
 from explain import rows
 from leaving import LONG, Deliveries, file_of, held, into_disk, write_volume
-from odd import record, records
+from odd import line, record, records
 from preloaded import compiled
 
 # The number of files that may be put and have no line yet.
@@ -85,6 +85,46 @@ def checks_whole(checks):
         told = ["refused 81", *words_of(81), *taken]
         checks.check_run("a file that is there", folder, ["--tar", tar], (1, b"", b"refused 81\n"), told)
         checks.check_run("no target", folder, [], (0, manifest, b""), [])
+
+
+# A file, a hard link to it, a symbolic link, a pipe, a device, a folder and an empty file.
+KINDS = [
+    file_of(b"/in/a", b"one"),
+    (1, b"/in/b hard", 0o100644, b"/in/a", 0, 0, 0, 1795302711, b""),
+    (4, b"/in/c", 0o120777, b"a", 0, 0, 0, 1795302711, b""),
+    (6, b"/in/d", 0o10644, b"", 0, 0, 0, 1795302711, b""),
+    (6, b"/in/e", 0o20666, b"", 0, 0, 0x103, 1795302711, b""),
+    (5, b"/in/f/", 0o40755, b"", 0, 0, 0, 1795302711, b""),
+    (2, b"/in/g", 0o100600, b"", 0, 0, 0, 1795302711, b""),
+]
+
+
+def checks_kinds(checks):
+    """Links and special files, which a folder skips and a tar stream has, also if data are read again."""
+    with tempfile.TemporaryDirectory() as made:
+        folder = Path(made)
+        write_volume(folder, [])
+        blocks = b"".join(block_of(records(index, file), index, 1, 100) for index, file in enumerate(KINDS, 1))
+        label = block_of(record(-2, 0, volume_label("V")), 0, 0, 0)
+        (folder / "volumes" / "V").write_bytes(label + blocks)
+        manifest = b"".join(line(index, file) for index, file in enumerate(KINDS, 1)) + b"total 7 0 0\n"
+        words = ["put", *["skipped"] * 4, "put", "put"]
+        told = [f"{word} {escaped(file[1])}" for word, file in zip(words, KINDS)]
+        told.append("3 of 7 files were put, links and special files skipped: 4")
+        for number, options in enumerate((["--quiet"], ["--memory", "0"], ["--keep-going", "--sync"])):
+            into = folder / f"into{number}"
+            into.mkdir()
+            checks.check_run(f"files of each type {options}", folder, ["--into", into, *options], (0, manifest, b""), told)
+            checks.check("and the folder", sorted(it.name for it in (into / "in").iterdir()), ["a", "f", "g"])
+            checks.check_run("and once more", folder, ["--into", into, "--resume", *options], (0, manifest, b""), told)
+        told = [f"put {escaped(file[1])}" for file in KINDS] + count(7, 7)
+        checks.check_run("and as a tar stream", folder, ["--tar", folder / "x.tar"], (0, manifest, b""), told)
+        (folder / "into0" / "in" / "f").rmdir()
+        (folder / "into0" / "in" / "f").write_bytes(b"a file")
+        told = ["put /in/a", *(f"skipped {escaped(file[1])}" for file in KINDS[1:5]), "failed /in/f/", "refused 80", *words_of(80)]
+        told.append(f"  {folder}/into0/in/f is a file, and has to be a folder. Next: Move it away, or choose another folder.")
+        told.append("1 of 7 files were put, links and special files skipped: 4")
+        checks.check_run("and a stop", folder, ["--into", folder / "into0", "--resume"], (1, manifest, b"refused 80\n"), told)
 
 
 def checks_reasons(checks):
@@ -186,7 +226,9 @@ def checks_faults(checks):
         checks.check("a log that can't be opened", (found, held(into)), ((3, b"", told), {}))
         found = checks.extract(folder, "--into", into, "--log", "/dev/full")
         told = b"brestore: the log could not be written, so it is not whole\n"
-        checks.check("a log that can't be written", (found, held(into)), ((0, manifest, told), dict(SOME)))
+        checks.check("a log that can't be written", (found, held(into)), ((3, manifest, told), dict(SOME)))
+        found = checks.extract(folder, "--into", into, "--log", "/dev/full")
+        checks.check("and of a restore that is refused", found, (3, b"", b"refused 81\n" + told))
         (folder / "volumes" / "V").rename(folder / "V")
         why = f"  {folder}/volumes/V can't be read: No such file or directory (os error 2). Next: Copy it there, or correct the folder's name."
         told = ["refused 14 V 0", *words_of(14), why]
@@ -195,6 +237,22 @@ def checks_faults(checks):
         told = [f"brestore: {folder}/x.bsr: No such file or directory (os error 2)"]
         plain = (3, b"", (told[0] + "\n").encode())
         checks.check_run("a bootstrap that is missing", folder, [], plain, told)
+
+
+def checks_standard_error(checks):
+    """Logs on standard error, between its other lines."""
+    with tempfile.TemporaryDirectory() as made:
+        folder = Path(made)
+        manifest, into = write_volume(folder, SOME), folder / "into"
+        into.mkdir()
+        told = "".join(f"{line}\n" for line in [*puts(SOME), *count(3, 3)]).encode()
+        found = checks.extract(folder, "--into", into, "--log", "-")
+        checks.check("a log on standard error", (found, held(into)), ((0, manifest, told), dict(SOME)))
+        (folder / "x.bsr").write_text("Volume=V\nJob=1\n")
+        told = "".join(f"{line}\n" for line in ["refused 32 line 2", *words_of(32)]).encode()
+        found = checks.extract(folder, "--log", "-")
+        checks.check("and one of a refusal", found, (1, b"", told + b"refused 32 line 2\n"))
+        checks.check("makes no file", sorted(it.name for it in folder.iterdir()), ["into", "volumes", "x.bsr"])
 
 
 def checks_pipe(checks):
@@ -311,11 +369,13 @@ def main():
     arguments.add_argument("--program", type=os.path.abspath, default=PROGRAM)
     checks = Logged(arguments.parse_args().program)
     checks_whole(checks)
+    checks_kinds(checks)
     checks_reasons(checks)
     checks_disks(checks)
     checks_denied(checks)
     checks_faults(checks)
     checks_pipe(checks)
+    checks_standard_error(checks)
     checks_lost(checks)
     checks_console(checks)
     with tempfile.TemporaryDirectory() as folder:

@@ -22,7 +22,8 @@ line. So a row that comes before the sync of a volume, and a name that is not sy
 `deliveries` has restores run to their end, and then drops all that was not synced: `extract` and `console` with `--sync --into` leave each
 file and folder of the manifest, and without `--sync` nothing is synced there; `extract --tar FILE` leaves each entry and the end of the
 stream, `--log FILE` each line, if the names of the two are there. Then `extract --sync --into` is cut at drawn calls: each file of a line
-`put` in the log is whole, and `--resume` makes the folder whole.
+`put` in the log is whole, and `--resume` makes the folder whole. It is also killed at these calls, and goes on by `--resume` without a loss:
+then a loss of all that was not synced in both runs leaves the whole folder.
 
 `--seed` draws other jobs and moments, and `--moments` says how many. The status is 1 if something differs.
 """
@@ -435,16 +436,29 @@ def check_cut(rows, given, folder, name, call, dice):
     return len(named)
 
 
+def check_killed(rows, given, folder, name, call):
+    """Kills a restore into a folder, goes on with it, and then loses what was not synced: not what the first run left unsynced, either."""
+    manifest, into = write_files(folder), folder / "into"
+    words = extract_words(folder, "--sync", "--into", into)
+    _, calls = recorded(given, words, str(folder), call)
+    found, more = recorded(given, [*words, "--resume"], str(folder))
+    rows.check(f"{name}, killed, and --resume", found, (0, manifest, b""))
+    rows.check(f"{name}, killed, and --resume, what is left", tree_left(calls + more, into), delivery(manifest)[0])
+    shutil.rmtree(folder)
+
+
 def check_cuts(rows, given, folder):
-    """Cuts the power of a restore at drawn calls. Threads write side by side, so the same number may be that of another call. Returns the
-    numbers of files that the log named."""
+    """Cuts the power of a restore at drawn calls, and kills one there. Threads write side by side, so the same number may be that of
+    another call. Returns the numbers of files that the log named."""
     write_files(folder / "whole")
     dice, log = random.Random(given.seed), folder / "whole" / "x.log"
     words = extract_words(folder / "whole", "--sync", "--into", folder / "whole" / "into", "--log", log)
     calls, named = len(recorded(given, words, str(folder / "whole"))[1]), []
     for number in range(given.moments):
         call = dice.randint(1, calls + 1)
-        named.append(check_cut(rows, given, folder / str(number), f"cut {number} of seed {given.seed} before call {call}", call, dice))
+        name = f"cut {number} of seed {given.seed} before call {call}"
+        named.append(check_cut(rows, given, folder / str(number), name, call, dice))
+        check_killed(rows, given, folder / str(number), name, call)
     return named
 
 

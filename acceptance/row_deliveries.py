@@ -1,6 +1,7 @@
 """The calls of rows/delivery that put files into a folder or a tar stream. Each is a restore, or one for each of its steps."""
 
 import os
+import re
 import subprocess
 from collections import namedtuple
 from pathlib import Path
@@ -88,10 +89,13 @@ def refusal(found):
     return numbers[0] if numbers else 0
 
 
-def count_put(found):
-    """Returns the number of files that were put, by the log."""
-    counts = [int(line.split(" ")[0]) for line in found.log if line.endswith(" files were put")]
-    return counts[0] if counts else 0
+COUNTED = re.compile(r"(\d+) of \d+ files were put(?:, links and special files skipped: (\d+))?")
+
+
+def count_taken(found):
+    """Returns the number of files that were put or skipped, by the log."""
+    counts = [COUNTED.fullmatch(line) for line in found.log if COUNTED.fullmatch(line)]
+    return int(counts[0][1]) + int(counts[0][2] or 0) if counts else 0
 
 
 def left_out(found):
@@ -112,12 +116,12 @@ def were_side_by_side(found):
 def end_of(found, totals):
     """Returns how a delivery of many files ended, as a row prints it: the totals, or the refusal and the number of files before it."""
     number = refusal(found)
-    return f"refused {number} after {count_put(found)} " if number else f"{totals} "
+    return f"refused {number} after {count_taken(found)} " if number else f"{totals} "
 
 
 def two_of(found, before):
     """Returns the result for two files, given the number of files that the delivery put before."""
-    number, count = refusal(found), count_put(found) - before
+    number, count = refusal(found), count_taken(found) - before
     word = "both" if not number else ("neither", "one")[count]
     return ("" if were_side_by_side(found) else "alone ") + word + (f" {number} " if number else " ")
 
@@ -232,7 +236,7 @@ def watched(tools, fields, _wanted):
     count them."""
     how, paths, step = fields
     found, gave, volume = put_steps(tools, [step], *memory_for(step), how=how)
-    lines = [line for line in found.log if line.startswith(("put ", "failed ")) or line.endswith(" files were put")]
+    lines = [line for line in found.log if line.startswith(("put ", "skipped ", "failed ")) or COUNTED.fullmatch(line)]
     begin = f"  {into(tools)}/"
     failed = "".join(f"/{line.removeprefix(begin).split(' ')[0]} " for line in found.log if line.startswith(begin))
     text = "".join(line + "\n" for line in lines).encode()
@@ -261,7 +265,7 @@ def kept_apart(tools, fields, _wanted, *options):
     for outcome in outcomes:
         volume.add(outcome)
     found = restored(tools, volume, "--into", into(tools), "--keep-going", *options)
-    put = [line.removeprefix("put ") for line in found.log if line.startswith("put ")]
+    put = [line.split(" ")[1] for line in found.log if line.startswith(("put ", "skipped "))]
     gave = ""
     for outcome in outcomes:
         is_kept = not isinstance(outcome, Item) or (put and put[0] == escaped(outcome.path))

@@ -336,7 +336,14 @@ def status_of(place, line):
     return [str(place.run(line.split(" ")[1:])[0])]
 
 
-LINE_CALLS = {"read": read, "status": status_of}
+def usage_of(place, line):
+    """Returns the command in the usage that is told of a command line with a fault."""
+    _, _, told = place.run(line.split(" ")[1:])
+    found = re.search(r"^Usage: (brestore(?: [a-z]+)?)", told.decode(), re.M)
+    return found[1].split(" ") if found else ["none"]
+
+
+LINE_CALLS = {"read": read, "status": status_of, "usage": usage_of}
 
 
 def counted(place, words):
@@ -369,12 +376,21 @@ def at_terminal(place, files, text):
     return terminal
 
 
+ASKED = {
+    "Help": r"^(\$ )?unmarkdir ",
+    "Dir": r" f2$",
+    "Exit": r"`quit` ends without a restore, `done` restores what is marked\.$",
+    "LongList": r"`dir` lists with sizes and moments\.$",
+    "Folder": r"`cd /` goes to the top, `cd \.\.` up, `pwd` prints the folder\.$",
+    "Other": r"^(\$ )*  [A-Z][A-Za-z]+: ",
+}
+
+
 def asked(place, line):
-    """Returns the request of a line at a terminal: `Help` or `Dir`, or `Other`."""
+    """Returns the request of a line at a terminal, by the words that answer it: `Other` if it is refused, and `Nothing` if no words come."""
     terminal = at_terminal(place, [(1, b"/f2", NUMBERS % b"Y")], text_of(line).decode())
-    if any(it.startswith("unmarkdir") for it in terminal):
-        return ["Help"]
-    return ["Dir" if any(it.endswith(" f2") for it in terminal) else "Other"]
+    found = [name for name, words in ASKED.items() if any(re.search(words, it) for it in terminal)]
+    return found or ["Nothing"]
 
 
 def name_line(place, name, number, moment):

@@ -73,6 +73,16 @@ def matched(tools, fields, wanted):
     return wanted if (status, printed) == (0 if is_clean else 1, manifest) else f"{status} {shown(printed)}, and not {shown(manifest)}"
 
 
+def over_fronts(tools, fields, _wanted):
+    """Runs `fronts`. Returns what a bootstrap gives over the first bytes of a volume, from one byte to all but one, and how often."""
+    volume, bootstrap, given = text_of(fields[0]), text_of(fields[1]), {}
+    for length in range(1, len(volume)):
+        status, printed = served(tools, {"V1": volume[:length]}, bootstrap)
+        told = fields_of_refusal(printed) or f"{status} {shown(printed)}"
+        given[told] = given.get(told, 0) + 1
+    return " ".join(f"{count}: {told}" for told, count in given.items())
+
+
 def hits_of(steps):
     """Returns the hits of steps, by group, address, ordinal and index: index, stream, size and bytes of each."""
     hits = {}
@@ -184,4 +194,4 @@ def length_of_manifest(tools, fields, wanted):
     return f"{len(printed)} {totals}"
 
 
-CALLS = {"match": matched, "join": joined, "manifest": whole_manifest, "length": length_of_manifest}
+CALLS = {"match": matched, "fronts": over_fronts, "join": joined, "manifest": whole_manifest, "length": length_of_manifest}

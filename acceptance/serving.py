@@ -1,11 +1,13 @@
 #!/usr/bin/env python3
 """Commits jobs by `brestore serve` to a catalogue and a folder of volumes, kills it while it commits, and compares what is left.
 
-    acceptance/serving.py [--program FILE] [--kills N] [--seed N]
+    acceptance/serving.py [--program FILE] [--kills N] [--looks N] [--seed N]
 
 What must be there is worked out by the second reading of scripts, scripting.py. It is compared with the rows that SQLite's own library
 finds, with the bytes of the volumes, and with what `console` restores. `--kills` is the number of runs that are killed (SIGKILL) at a
-moment which is drawn by the seed. The status is 1 if something is not as expected.
+moment which is drawn by the seed; a `console` that begins shortly before the kill has to show the first jobs of the script, with each
+for which `stored` was printed by then. `--looks` is the number of jobs that are committed while `console` and `jobs` look: each has to
+show such a front, too. The status is 1 if something is not as expected.
 """
 
 import argparse
@@ -18,6 +20,7 @@ import sqlite3
 import subprocess
 import sys
 import tempfile
+import threading
 import time
 from pathlib import Path
 
@@ -33,6 +36,8 @@ from stored import differences, has_tables, rows_by, rows_of, served, volumes_of
 CLIENT, FILE_SET = b"mars", b"home"
 ALL = b"mark *\ndone\n"
 JOBS, FILES = 24, 12
+# A console begins at most this long before a kill, in seconds. It looks at the catalogue within that time.
+AHEAD = 0.02
 
 # A Full on two volumes with a folder, a link and a digest; a Differential with a deletion; and an Incremental.
 THREE_JOBS = b"""drives 2
@@ -70,10 +75,17 @@ class Place:
     def serve(self, program, text):
         return served(program, self.catalogue, self.volumes, text)
 
-    def console(self, program, before, into=None):
+    def console_words(self, program, before):
         words = [program, "console", "--db", self.catalogue, "--volumes", self.volumes, "--client", CLIENT.decode()]
-        words += ["--fileset", FILE_SET.decode(), "--before", moment(before), *(["--into", into] if into else [])]
+        return [*words, "--fileset", FILE_SET.decode(), "--before", moment(before)]
+
+    def console(self, program, before, into=None):
+        words = [*self.console_words(program, before), *(["--into", into] if into else [])]
         ran = subprocess.run(words, input=ALL, capture_output=True, timeout=60)
+        return ran.returncode, ran.stdout, ran.stderr
+
+    def jobs(self, program):
+        ran = subprocess.run([program, "jobs", "--db", self.catalogue], stdin=subprocess.DEVNULL, capture_output=True, timeout=60)
         return ran.returncode, ran.stdout, ran.stderr
 
     def wrong(self, script):
@@ -122,6 +134,24 @@ def three_jobs(checks, folder):
         checks.check("and a delivery", place.console(checks.program, before, into), (int(stop is not None), answer[1], refused))
         checks.check("and its files", tree_of(into), tree)
     return place, script
+
+
+def rights(checks, folder):
+    """The catalogue that is made and its log are their owner's alone, whatever rights new files have here. A file that is there keeps its own."""
+    first = THREE_JOBS[: THREE_JOBS.index(b"end\n") + 4]
+    for name, before, expected in (("a catalogue that is made", None, 0o600), ("one that is there", 0o640, 0o640)):
+        place = Place(os.path.join(folder, f"rights {expected}"))
+        if before is not None:
+            Path(place.catalogue).touch()
+            os.chmod(place.catalogue, before)
+        words = [checks.program, "serve", "--db", place.catalogue, "--volumes", place.volumes]
+        with subprocess.Popen(words, stdin=subprocess.PIPE, stdout=subprocess.PIPE, umask=0) as child:
+            child.stdin.write(first)
+            child.stdin.flush()
+            checks.check(f"a job of {name}", child.stdout.readline(), b"stored 1\n")
+            found = [os.stat(place.catalogue + end).st_mode & 0o777 for end in ("", "-wal")]
+            child.stdin.close()
+        checks.check(f"the rights of {name} and its log", (found, child.returncode), ([expected] * 2, 0))
 
 
 def in_memory(program, text):
@@ -211,18 +241,64 @@ def draw_job(dice, number):
     return [*lines, b"place %s %d" % (first, dice.randrange(1, 9)), b"place %s 0" % last, b"end"]
 
 
-def killed(program, place, script_file, seconds, is_early):
-    """Runs a script and kills the program this time after its first line, or after its start. Returns the exit status and the whole
-    lines that it wrote."""
+class Fronts:
+    """What `console` and `jobs` print over the first jobs of a script, by their number."""
+
+    def __init__(self, whole):
+        self.whole, self.known = whole, {}
+
+    def console(self, count):
+        if count not in self.known:
+            before = self.whole.jobs[-1]["start"] + 1
+            self.known[count] = consoled(self.whole.jobs[:count], self.whole.volumes, (CLIENT, FILE_SET, before), ALL)
+        return self.known[count]
+
+    def jobs(self, count):
+        return 0, b"".join(line_of(job) for job in self.whole.jobs[:count]), b""
+
+    def wrong(self, what, answer, least, most):
+        """Compares what `console` or `jobs` printed. Returns what is wrong."""
+        fronts = [getattr(self, what)(count) for count in range(least, min(most, len(self.whole.jobs)) + 1)]
+        return [] if answer in fronts else [f"{what} beside serve: {answer}, and not {least} to {most} jobs"]
+
+
+def line_of(job):
+    """Returns the line of a Full in the list of jobs."""
+    size = sum(len(it[3]) for it in job["saved"])
+    volumes = b",".join(dict.fromkeys(span[0] for span in job["spans"]))
+    start = f"{moment(job['start'])}".encode()
+    return b"- %d F T %s %s %s %d %d %s\n" % (job["id"], start, job["client"], job["fileset"], len(job["saved"]), size, volumes)
+
+
+def printed_by_now(pipe):
+    """Returns what can be read from a pipe without waiting."""
+    os.set_blocking(pipe.fileno(), False)
+    found = b""
+    while part := pipe.read(1 << 16):
+        found += part
+    os.set_blocking(pipe.fileno(), True)
+    return found
+
+
+def killed(program, place, script_file, seconds, is_early, ahead):
+    """Runs a script and kills the program this time after its first line, or after its start, and `ahead` seconds after a console began.
+    Returns the exit status, the whole lines that it wrote, and what the console printed, if a catalogue was there: the number of lines that
+    were written before it began, and its answer."""
     words = [program, "serve", "--db", place.catalogue, "--volumes", place.volumes]
     with open(script_file, "rb") as lines:
-        ran = subprocess.Popen(words, stdin=lines, stdout=subprocess.PIPE, stderr=subprocess.STDOUT)
+        ran = subprocess.Popen(words, stdin=lines, stdout=subprocess.PIPE, stderr=subprocess.STDOUT, bufsize=0)
     front = b"" if is_early else ran.stdout.readline()
     time.sleep(seconds)
-    ran.kill()
+    front += printed_by_now(ran.stdout)
+    is_there, asked = os.path.exists(place.catalogue), place.console_words(program, 100 * JOBS + 1)
+    with subprocess.Popen(asked, stdin=subprocess.PIPE, stdout=subprocess.PIPE, stderr=subprocess.PIPE) as looking:
+        time.sleep(ahead)
+        ran.kill()
+        answer = looking.communicate(ALL, timeout=60)
     with ran.stdout:
         rest = ran.stdout.read()
-    return ran.wait(), (front + rest).split(b"\n")[:-1]
+    seen = (front.count(b"\n"), (looking.returncode, *answer)) if is_there else None
+    return ran.wait(), (front + rest).split(b"\n")[:-1], seen
 
 
 def seconds_of(program, place, script_file):
@@ -316,12 +392,14 @@ def kills(given, folder):
         return False
     seconds = [seconds_of(given.program, Place(os.path.join(folder, f"timed {number}")), script_file) for number in range(5)]
     start, rest = (sorted(it)[2] for it in zip(*seconds))
-    counts, unvouched, failed = [], 0, 0
+    counts, unvouched, failed, fronts = [], 0, 0, Fronts(whole)
     for number in range(given.kills):
         place, is_early = Place(os.path.join(folder, str(number))), dice.random() < 0.1
         after = dice.random() * (start if is_early else rest)
-        status, lines = killed(given.program, place, script_file, after, is_early)
+        status, lines, seen = killed(given.program, place, script_file, after, is_early, dice.random() * AHEAD)
         count, retired, wrong = after_kill(given, place, whole, lines)
+        if seen:
+            wrong += fronts.wrong("console", seen[1], seen[0], count)
         if status not in (-9, 0):
             wrong.append(f"status {status}")
         for it in wrong:
@@ -335,21 +413,79 @@ def kills(given, folder):
     return not failed
 
 
+# ---- looks beside it
+
+
+class Looks(threading.Thread):
+    """Looks at a catalogue again and again, by `console` or `jobs`, and keeps each answer with the number of jobs that were stored before
+    it was asked for, and that were sent before it was there."""
+
+    def __init__(self, program, place, what, counts):
+        super().__init__()
+        self.program, self.place, self.what, self.counts = program, place, what, counts
+        self.answers, self.is_over = [], False
+
+    def run(self):
+        while not self.is_over:
+            stored = self.counts["stored"]
+            answer = self.place.jobs(self.program) if self.what == "jobs" else self.place.console(self.program, self.counts["before"])
+            self.answers.append((answer, stored, self.counts["sent"]))
+
+
+def looks(given, folder):
+    """Looks at a catalogue while jobs are committed to it. Returns whether all answers were right."""
+    dice, place = random.Random(given.seed), Place(os.path.join(folder, "looks"))
+    drawn = [b"".join(line + b"\n" for line in draw_job(dice, number)) for number in range(1, given.looks + 1)]
+    whole = Script(b"".join(drawn))
+    whole.run()
+    place.serve(given.program, b"")
+    counts = {"stored": 0, "sent": 0, "before": whole.jobs[-1]["start"] + 1}
+    lookers = [Looks(given.program, place, what, counts) for what in ("console", "jobs", "console", "jobs")]
+    for it in lookers:
+        it.start()
+    words = [given.program, "serve", "--db", place.catalogue, "--volumes", place.volumes]
+    lines = []
+    with subprocess.Popen(words, stdin=subprocess.PIPE, stdout=subprocess.PIPE) as ran:
+        for job in drawn:
+            counts["sent"] += 1
+            ran.stdin.write(job)
+            ran.stdin.flush()
+            lines.append(ran.stdout.readline())
+            counts["stored"] += 1
+        ran.stdin.close()
+        rest = ran.stdout.read()
+    for it in lookers:
+        it.is_over = True
+        it.join()
+    fronts = Fronts(whole)
+    wrong = [] if (b"".join(lines), rest, ran.returncode) == (whole.run()[1], b"", 0) else [f"serve: {lines} {rest}, status {ran.returncode}"]
+    wrong += [it for looker in lookers for answer in looker.answers for it in fronts.wrong(looker.what, *answer)]
+    wrong += place.wrong(whole)
+    shown = {answer[0] for looker in lookers for answer in looker.answers}
+    for it in wrong:
+        print(f"looks of seed {given.seed}: {it}")
+    total = sum(len(looker.answers) for looker in lookers)
+    print(f"{total} looks, {len(shown)} different, beside {given.looks} commits: {'as expected' if not wrong else f'{len(wrong)} differ'}")
+    return not wrong and len(shown) > 2
+
+
 def main():
     parser = argparse.ArgumentParser(description=__doc__.splitlines()[0])
     parser.add_argument("--program", type=os.path.abspath, default=PROGRAM)
     parser.add_argument("--kills", type=int, default=200)
+    parser.add_argument("--looks", type=int, default=400)
     parser.add_argument("--seed", type=int, default=1)
     given = parser.parse_args()
     checks = Checks(given.program)
     with tempfile.TemporaryDirectory() as folder:
         place, script = three_jobs(checks, folder)
+        rights(checks, folder)
         by_sqlite3(checks, place)
         job_by_job(checks, folder)
         unfinished(checks, place, script)
         refusals(checks, folder)
-        is_well = kills(given, folder)
-    return 0 if is_well and not checks.failed else 1
+        is_well = [kills(given, folder), looks(given, folder)]
+    return 0 if all(is_well) and not checks.failed else 1
 
 
 if __name__ == "__main__":

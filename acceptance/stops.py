@@ -7,11 +7,11 @@
 later one fail. The program makes a catalogue of an empty file, or opens the catalogue of three jobs that `sqlite3` made, or one that
 it made itself, and restores from it by a script. After each stop the same script runs again, without a stop: it finds a catalogue
 without a job, or the one that was there, and SQLite's own library finds the file sound. If the calls fail, the program is refused with
-45 at its start or its end, or the same as without a stop if its answer did not need them. `console` over the same catalogues makes no
-call that changes a file.
+45 at its start or its end, or the same as without a stop if its answer did not need them. After each stop, before that, `console` shows
+what it showed at first, or shows after a run without a stop. Over the same catalogues it makes no call that changes a file.
 
-A catalogue of version 1 is migrated, and stopped in the same ways. Afterwards it is of version 1 or of version 2, with the same jobs, and
-another migration goes on from there. After an answer without a refusal it is of version 2.
+A catalogue of version 1 is migrated, and stopped in the same ways. Afterwards it is of version 1 or of version 2, with the same jobs, as
+`console` says, and another migration goes on from there. After an answer without a refusal it is of version 2.
 
 A script that commits two jobs to a catalogue and to a folder of volumes is stopped in the same ways. Afterwards the catalogue has the
 first 0, 1 or 2 of the jobs, each that was acknowledged among them, and a restore gives all that these jobs saved. The rows and the bytes
@@ -58,8 +58,6 @@ STOPPED = (137, b"", b"")
 OLD, NOT_OLD = (1, b"", b"refused 48\n"), (1, b"", b"refused 47\n")
 ORDER = os.path.join(SETS, "order")
 LOOK = [b"restore peer-fd Peer 2026-11-21 23:15:46", b"mark *", b"done"]
-# A shorter log has no room for a commit.
-LOG_ROOM = 56
 
 
 def faults_of(given, words, call, way, log):
@@ -83,12 +81,6 @@ def console(given, catalogue, call=None, way="before", log=os.devnull):
     words = ["console", "--db", catalogue, "--volumes", ORDER, "--client", "peer-fd"]
     words += ["--fileset", "Peer", "--before", "2026-11-21 23:15:46"]
     return run(given, words, b"mark *\ndone\n", call, way, log)
-
-
-def said(given, catalogue):
-    """Returns what `console` says, or None if the log has what is not in the file yet: that is refused after five seconds."""
-    log = Path(catalogue + "-wal")
-    return None if log.exists() and log.stat().st_size >= LOG_ROOM else console(given, catalogue)
 
 
 def is_traceless(given, folder, kept):
@@ -131,7 +123,9 @@ def stop_in_turn(given, folder, kept):
     """Stops a script over this catalogue at each call in each way. Returns the number of stops, and
     the differences."""
     catalogue = copied(folder, kept)
-    own, rows = opened(given, catalogue), rows_of(catalogue)
+    shown, own, rows = [console(given, catalogue)], opened(given, catalogue), rows_of(catalogue)
+    # An empty file is refused until it has the tables.
+    shown.append(console(given, catalogue))
     stops, wrong = 0, [] if is_traceless(given, folder, kept) else ["console changes a file"]
     for way in WAYS:
         call, was_stopped = 0, True
@@ -144,6 +138,8 @@ def stop_in_turn(given, folder, kept):
             stops += was_stopped
             if found not in (allowed_after(own, way) if was_stopped else (own,)):
                 wrong.append(f"{way} call {call}: {found}")
+            if (looked := console(given, catalogue)) not in shown:
+                wrong.append(f"after a stop {way} call {call}: {looked}")
             if (again := opened(given, catalogue)) != own:
                 wrong.append(f"after a stop {way} call {call}: {again}")
             if (left := rows_of(catalogue)) != rows:
@@ -163,8 +159,8 @@ class Versions:
     def fault(self, given, catalogue, is_done):
         """Returns what is wrong with a catalogue after a stop. It has to be of version 2 if that
         was printed."""
-        found = found_in(catalogue), said(given, catalogue)
-        is_new, is_old = (found[0] == it[0] and found[1] in (None, it[1]) for it in (self.new, self.old))
+        found = found_in(catalogue), console(given, catalogue)
+        is_new, is_old = found == self.new, found == self.old
         if not is_new and (is_done or not is_old):
             return f"left {found}"
         again = migrate(given, catalogue), (found_in(catalogue), console(given, catalogue))
@@ -407,7 +403,8 @@ def fail_once(given, folder):
         faults += [] if again == (0, b"", b"") else [f"and then {again}"]
         wrong += [f"once call {len(calls)} {call}: {fault}" for fault in faults]
     syncs = [path for name, path in calls if name in SYNCS and is_of_volumes((name, path), places)]
-    if len(syncs) != 2 * len(PLACES):
+    # The folder once a commit, and each volume.
+    if len(syncs) != len({number for number, _ in PLACES}) + len(PLACES):
         wrong.append(f"once: the volumes are synced by {syncs}")
     return len(calls), wrong
 

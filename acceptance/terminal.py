@@ -103,9 +103,9 @@ def read_until(terminal, text, wanted, ends):
     return text
 
 
-def play(program, words, lines, folder):
-    """Runs the program at a terminal, and types each line when it is asked for. Returns the exit status, what the terminal showed as
-    lines, and standard output."""
+def play(program, words, lines, folder, prints=False):
+    """Runs the program at a terminal, to which it also prints if that is asked for, and types each line when it is asked for. Returns the
+    exit status, what the terminal showed as lines, and standard output if that is not the terminal."""
     terminal, inner = pty.openpty()
     modes = termios.tcgetattr(inner)
     modes[0] &= ~termios.ICRNL
@@ -113,7 +113,7 @@ def play(program, words, lines, folder):
     termios.tcsetattr(inner, termios.TCSANOW, modes)
     ends, shown = time.monotonic() + SECONDS, ""
     with open(os.path.join(folder, "printed"), "w+") as printed:
-        child = subprocess.Popen([program, *words], stdin=inner, stdout=printed, stderr=inner)
+        child = subprocess.Popen([program, *words], stdin=inner, stdout=inner if prints else printed, stderr=inner)
         os.close(inner)
         for wanted, line in lines:
             shown = read_until(terminal, shown, wanted, ends)
@@ -183,6 +183,9 @@ def restores(checks, folder):
     with open(blank, "w"):
         pass
     status, shown, printed = play(checks.program, ["jobs", "--db", blank], [], folder)
+    checks.check("the jobs of an empty file", (status, shown, printed), (1, told(45), ""))
+    subprocess.run([checks.program, "serve", "--db", blank, "--volumes", folder], stdin=subprocess.DEVNULL, check=True)
+    status, shown, printed = play(checks.program, ["jobs", "--db", blank], [], folder)
     checks.check("the jobs of an empty catalogue", (status, shown, printed), (0, [EMPTY], ""))
     status, shown, printed = play(checks.program, console_words(db, into), typed("done"), folder)
     checks.check("nothing is marked", (status, shown, printed), (1, [*CHOSEN, *GREETING, *told(51, f"{PROMPT}refused 51")], ""))
@@ -212,8 +215,16 @@ def asks_again(checks, folder):
     chosen.append("purged 3: no files of this job are in the catalogue, so older copies may come back; its bootstrap restores them")
     lines = typed("", "mark /tmp", "quit")
     status, shown, printed = play(checks.program, console_words(db, folder)[:-2], lines, folder)
-    wanted = [*chosen, *GREETING, PROMPT + words(55)[0], words(55)[1], PROMPT + words(57)[0], words(57)[1], PROMPT + QUIT]
-    checks.check("a blank line, and a path from the top", (status, shown, printed), (1, wanted, "refused 55\nrefused 57\n"))
+    wanted = [*chosen, *GREETING, PROMPT * 2 + words(57)[0], words(57)[1], PROMPT + QUIT]
+    checks.check("a blank line, and a path from the top", (status, shown, printed), (1, wanted, "refused 57\n"))
+    empty = os.path.join(folder, "none")
+    os.mkdir(empty)
+    session = console_words(db, folder)[:-2]
+    session[session.index("--volumes") + 1] = empty
+    lost = f"  {empty}/Vol-0001 can't be read: No such file or directory (os error 2). Next: Copy it there, or correct the folder's name."
+    status, shown, printed = play(checks.program, session, typed("quit"), folder)
+    wanted = [*chosen[:3], lost, chosen[3], *GREETING, PROMPT + QUIT]
+    checks.check("volumes that are not there", (status, shown, printed), (1, wanted, ""))
 
 
 def extracts(checks, folder):
@@ -362,6 +373,34 @@ def looks(checks, folder):
     checks.check("findings", (status, shown, printed[:21]), (1, [], "volume 14 Vol-0001 0\n"))
 
 
+def streams(checks, folder):
+    """Streams to a terminal, which are refused before a line is read."""
+    db = os.path.join(folder, "streamed.db")
+    with open(ORDER_SQL) as text:
+        subprocess.run(["sqlite3", db], stdin=text, check=True)
+    told_of = [*told(81), "  standard output is a terminal. Next: Name a file, or send the stream to another program."]
+    for words in (["extract", "--bsr", BOOTSTRAP, "--volumes", VOLUMES], console_words(db, folder)[:-2]):
+        status, shown, _ = play(checks.program, [*words, "--tar", "-"], [], folder, prints=True)
+        checks.check(f"a stream of {words[0]} to a terminal", (status, shown), (1, told_of))
+
+
+def lists(checks, folder):
+    """Lists of jobs, with the heads of their columns if they go to a terminal."""
+    db = os.path.join(folder, "listed.db")
+    with open(ORDER_SQL) as text:
+        subprocess.run(["sqlite3", db], stdin=text, check=True)
+    heads = "MARK JOBID LEVEL STATUS DATE TIME CLIENT FILESET FILES BYTES VOLUMES"
+    for options, head in (([], heads), (["--local"], heads.replace("TIME", "TIME LOCAL-DATE LOCAL-TIME"))):
+        words = ["jobs", "--db", db, *options]
+        printed = subprocess.run([checks.program, *words], capture_output=True, text=True).stdout.splitlines()
+        checks.check(f"three jobs {options}", len(printed), 3)
+        checks.check("as many words as heads", {len(line.split(" ")) for line in printed}, {len(head.split(" "))})
+        checks.check("at a terminal", play(checks.program, words, [], folder, prints=True)[:2], (0, [head, *printed]))
+        checks.check("into a file", play(checks.program, words, [], folder)[:2], (0, []))
+    none = [*words, "--client", "mars-fd"]
+    checks.check("none at a terminal", play(checks.program, none, [], folder, prints=True)[:2], (0, [NO_JOB]))
+
+
 def waits(checks, folder):
     """The program without a command."""
     status, shown, printed = play(checks.program, [], [(f"{AWAITED}\n", "\x04")], folder)
@@ -377,7 +416,7 @@ def main():
     folder = tempfile.mkdtemp(prefix="brestore-terminal-")
     telling = (partial(tells, again=options.again), partial(tells_a_session, again=options.again))
     try:
-        for plays in (restores, asks_again, extracts, *telling, leaves_unsaid, looks, waits):
+        for plays in (restores, asks_again, extracts, *telling, leaves_unsaid, looks, streams, lists, waits):
             plays(checks, folder)
     finally:
         shutil.rmtree(folder)

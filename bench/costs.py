@@ -4,7 +4,9 @@
     bench/costs.py [--program FILE] [--size KIB] [NAME..]
 
 Each input is made in the size that is asked for and in twice it. The table has the processor's seconds, the peak memory (that of the
-script at least) and the exit status for both. The status is 1 if a run ended by another status than 0 or 1.
+script at least) and the exit status for both. The inputs of the reader `growth` have sizes of their own, and are made in each, in twice
+and in four times it. The status is 1 if a run ended by another status than 0 or 1, or if four times the input of a line of `growth` took
+more than MOST times as long.
 """
 
 import argparse
@@ -21,6 +23,11 @@ from pathlib import Path
 sys.dont_write_bytecode = True
 sys.path.insert(0, os.path.join(os.path.dirname(os.path.dirname(os.path.abspath(__file__))), "tools"))
 from common import MIB, ORDER_SQL, PROGRAM, run_measured
+
+# What four times the input may cost, in what the input costs: linear is 4, n log n a bit more, and quadratic is 16.
+MOST = 7
+# Seconds of the processor that count as nothing: a run takes as long for an input of some bytes.
+START = 0.02
 
 ALL = b"Volume=V\n"
 NUMBERS = b"A A A A A A A A A A A A A"
@@ -246,6 +253,48 @@ def long_texts(connection, count):
 CATALOGUES = {many_jobs: 40, many_spans: 40, many_files: 60, same_files: 17, long_texts: 40}
 
 
+# ---- inputs that are to cost as much as they are long: a run for each, by its number of parts
+
+
+def incrementals(costs, count):
+    """The choice of a Full and Incrementals, of which each has a line."""
+
+    def fill(connection, count):
+        many_jobs(connection, count)
+        connection.execute("UPDATE Job SET Level = 'F' WHERE JobId = 1")
+
+    costs.catalogue(fill, count)
+    words = ["jobs", "--db", os.path.join(costs.folder, "catalogue"), "--client", "c", "--fileset", "f", "--before", "2026-01-01 00:00:00"]
+    return costs.run(words)
+
+
+def spans_over_all_files(costs, count):
+    """As many files as spans, of which each has a part of each file."""
+
+    def fill(connection, count):
+        many_files(connection, count + 1)
+        rows = ((count, it, it, it + 1) for it in range(count))
+        connection.executemany("INSERT INTO JobMedia VALUES (NULL, 1, 1, 1, ?, 0, 0, ?, ?, ?)", rows)
+
+    costs.catalogue(fill, count)
+    return costs.console(lambda size: b"mark *\ndone\n", 0)
+
+
+def marks(costs, count):
+    """A line that marks one name, for each second name of a directory."""
+    costs.catalogue(many_files, count)
+    return costs.console(lambda size: b"".join(b"mark %x\n" % it for it in range(1, count, 2)) + b"quit\n", 0)
+
+
+def records_read_again(costs, count):
+    """A file of records with a byte each in one block, of which none is held."""
+    body = saved(1) + record(1, 2, b"x") * count
+    return costs.extract(lambda size: (ALL, block(body)), 0, ["--memory", "0"])
+
+
+GROWTH = {incrementals: 20_000, spans_over_all_files: 8_000, marks: 16_000, records_read_again: 40_000}
+
+
 class Costs:
     """Measures runs in a folder."""
 
@@ -278,9 +327,10 @@ class Costs:
         if os.waitpid(child, 0)[1] != 0:
             raise RuntimeError("the input was not made")
 
-    def extract(self, make, size):
+    def extract(self, make, size, words=()):
         self.write(lambda: dict(zip(("x.bsr", "volumes/V"), make(size))))
-        return self.run(["extract", "--bsr", os.path.join(self.folder, "x.bsr"), "--volumes", os.path.join(self.folder, "volumes")])
+        command = ["extract", "--bsr", os.path.join(self.folder, "x.bsr"), "--volumes", os.path.join(self.folder, "volumes")]
+        return self.run([*command, *words])
 
     def console(self, make, size):
         words = ["console", "--db", os.path.join(self.folder, "catalogue"), "--volumes", self.folder, "--client", "c", "--fileset", "f"]
@@ -303,6 +353,14 @@ class Costs:
     def tried(self, fill, count):
         """Measures a catalogue of `count` rows. Returns its size too."""
         return self.catalogue(fill, count), self.console(lambda size: b"quit\n", 0)
+
+    def grow(self, run, count):
+        """Measures an input of `count` parts, of twice and of four times as many."""
+        runs = [run(self, count * times) for times in (1, 2, 4)]
+        grows = runs[2][0] / max(runs[0][0], START)
+        self.failed |= grows > MOST
+        cells = [f"{count * times:8} parts {seconds:8.3f} s {memory / MIB:7.1f} MiB {status}" for times, (seconds, memory, status) in zip((1, 2, 4), runs)]
+        print(f"{'growth':20} {run.__name__:26} {' | '.join(cells)} | {grows:5.1f} times", flush=True)
 
     def show(self, reader, name, sizes, runs):
         cells = []
@@ -329,6 +387,9 @@ def measure(costs, wanted, kib):
         if wanted(fill.__name__):
             runs = [costs.tried(fill, size // each) for size in sizes]
             costs.show("catalogue", fill.__name__, [it[0] for it in runs], [it[1] for it in runs])
+    for run, count in GROWTH.items():
+        if wanted(run.__name__):
+            costs.grow(run, count)
 
 
 def main():

@@ -90,17 +90,20 @@ else
 fi
 
 needs() {
-    command -v "$1" > /dev/null || fail "there is no $1"
+    command -v "$1" > /dev/null || fail "there is no $1$2"
 }
 
-needs sqlite3
-needs "$program"
+for file in stage.sql rules.sql "$kind.sql"; do
+    [ -r "$here/$file" ] || fail "$here/$file is missing: call the script by its own path, not by a link"
+done
+needs sqlite3 ': install it'
+needs "$program" ': put its folder into PATH, or give --program FILE'
 case $kind in
-pgsql) needs psql ;;
+pgsql) needs psql ': install the client of PostgreSQL' ;;
 mysql)
-    mysql=mysql
-    command -v mysql > /dev/null || mysql=mariadb
-    needs $mysql
+    mysql=mariadb
+    ! command -v mysql > /dev/null || mysql=mysql
+    command -v $mysql > /dev/null || fail 'there is no mysql and no mariadb: install the client of the database'
     ;;
 sqlite)
     [ -f "$source" ] || fail "$source is no file"
@@ -126,7 +129,7 @@ if [ -e "$new" ] || [ -L "$new" ]; then fail "$new is there already"; fi
 work=$new.import.$$
 mkdir -m 700 -- "$work" || fail "no folder can be made beside $new"
 trap 'rm -rf -- "$work"' EXIT
-trap 'exit 3' HUP INT TERM
+trap 'exit 3' HUP INT PIPE TERM
 
 # Runs SQLite over the database of the rows as they were, with the new catalogue beside it.
 run_sqlite() {
@@ -176,7 +179,7 @@ END
     start='CAST(j.JobTDate AS SIGNED) - ifnull(timestampdiff(SECOND, j.StartTime, j.EndTime), 0)'
     ;;
 sqlite)
-    is_old=$(run_sqlite "ATTACH '$uri' AS bacula;
+    is_old=$(run_sqlite -cmd '.timeout 60000' "ATTACH '$uri' AS bacula;
 SELECT count(*) FROM pragma_table_info('File', 'bacula') WHERE lower(name) = 'filenameid';") || fail "$source cannot be read"
     client_name='lower(hex(c.Name))'
     fileset_name='lower(hex(s.FileSet))'
@@ -216,19 +219,28 @@ rows() {
     fi
 }
 
+# Ends without a catalogue. Says why each job is left out and, if not all jobs were asked for, which names there are.
+no_job() {
+    cat "$work/lines" >&2
+    [ $all = 0 ] || fail 'there is no job to take'
+    echo 'import.sh: there is no job to take of this client and file set after this moment. The database has:' >&2
+    run_sqlite "SELECT 'client ' || name FROM client UNION SELECT 'file set ' || name FROM fileset ORDER BY 1" >&2 || :
+    exit 3
+}
+
 # The empty tables are made by the program itself.
-"$program" serve --db "$work/new.db" --volumes "$work" < /dev/null > "$work/said" 2>&1 ||
-    fail "$program cannot make a catalogue: $(cat "$work/said")"
-rows | run_sqlite > "$work/said" || fail 'the database cannot be read'
+said=$("$program" serve --db "$work/new.db" --volumes "$work" < /dev/null 2>&1) ||
+    fail "$program cannot make a catalogue beside $new: ${said:-it says nothing}. Is there room?"
+rows | run_sqlite > /dev/null || fail 'the database cannot be read'
 [ "$(run_sqlite 'SELECT count(*) FROM in_end')" = 1 ] || fail 'the database cannot be read to its end'
-run_sqlite < "$here/rules.sql" > "$work/said" || fail 'the catalogue cannot be made'
+run_sqlite < "$here/rules.sql" > /dev/null || fail 'the catalogue cannot be made'
 run_sqlite "SELECT kind || ' ' || JobId || ' ' || count FROM line ORDER BY JobId, kind" > "$work/lines" || fail 'the lines cannot be read'
 jobs=$(run_sqlite 'SELECT count(*) FROM job WHERE kind IS NULL') || fail 'the jobs cannot be counted'
-[ "$jobs" != 0 ] || fail 'there is no job to take'
+[ "$jobs" != 0 ] || no_job
 files=$(run_sqlite "ATTACH 'new.db' AS new; SELECT count(*) FROM new.File") || fail 'the files cannot be counted'
 rm -f -- "$work/rows.db"
 
-"$program" jobs --db "$work/new.db" > "$work/jobs" 2> "$work/said" || fail "$program does not take the catalogue: $(cat "$work/said")"
+said=$("$program" jobs --db "$work/new.db" 2>&1 > "$work/jobs") || fail "$program does not take the catalogue: $said"
 [ "$(wc -l < "$work/jobs")" -eq "$jobs" ] || fail "$program does not list each job"
 if [ -e "$new" ] || [ -L "$new" ]; then fail "$new is there already"; fi
 mv -- "$work/new.db" "$new" || fail "$new cannot be made"

@@ -1,5 +1,5 @@
 -- Reads Bacula's catalogue in a file of SQLite into the tables of stage.sql. import.sh replaces the words with an `@`.
-PRAGMA busy_timeout = 10000;
+PRAGMA busy_timeout = 60000;
 ATTACH '@uri@' AS bacula;
 BEGIN;
 INSERT INTO in_client SELECT ClientId, CAST(Name AS BLOB) FROM @Client;

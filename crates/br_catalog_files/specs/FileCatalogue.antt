@@ -1,15 +1,17 @@
 -- What the catalogue in a file tells, if its disk has returned what was written to it.
 use Rattle.std.specs.Prelude.{◌≡◌, None, IsTrue}
+use Rattle.sqlite.specs.Effect.{Database}
 use Rattle.sqlite.specs.Held.{Held}
 use Rattle.sqlite_trees.specs.declared.store.Store.{Ghosts}
 use Rattle.sqlite_disk.specs.declared.Disk as disk
 use Rattle.sqlite_disk.specs.declared.Files.{Files}
 use Rattle.sqlite_store.specs.declared.store.FileStore.{FileStore}
 use Rattle.sqlite_wal.specs.Reads.{AreClean}
+use Rattle.br_catalog_rows.specs.Rows.{Rows}
 use Rattle.br_store.specs.Calls.{IsDurable, WhileClean}
-use Rattle.br_store.specs.Held.{versions_in}
+use Rattle.br_store.specs.Held.{rows_in, versions_in}
 use Rattle.br_store.specs.LookFolded.{IsFolded}
-use Rattle.br_store.specs.Made.{version_refusal}
+use Rattle.br_store.specs.Made.{Finds, version_refusal}
 
 -- The catalogue is open and of version 2. All that it shows is committed, and a crash leaves just its
 -- rows.
@@ -18,6 +20,10 @@ pub record IsOpened {S : Type 0} (g : Ghosts S) (held : Held S) : Type 0 where
   pub current : WhileClean g held (λ is. version_refusal (versions_in is.now.trees) ≡ None)
   pub settled : WhileClean g held (λ is. is.now ≡ is.committed)
   pub durable : WhileClean g held IsDurable
+
+-- the claim holds of the rows that an opening of a database finds
+abbrev pub OfFoundRows : Database → (Rows → Type 0) → Type 0
+OfFoundRows before claim = (found : Database) × Finds before found × claim (rows_in found.trees)
 
 module _ {D : Type 0} {g : disk.Ghosts D} where
   -- If both files read as they were written, the log is empty, and the database file alone holds all

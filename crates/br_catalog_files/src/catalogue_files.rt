@@ -1,13 +1,14 @@
 //! Catalogues in files of SQLite.
 
-ghost use Rattle.std.specs.Prelude.{◌≡◌, IfOk, OnOk};
+ghost use Rattle.std.specs.Prelude.{◌≡◌, Ok, IfOk, OnOk};
 ghost use Rattle.sqlite.specs.Files.{over_files};
 ghost use Rattle.sqlite.specs.Held.{state};
 ghost use Rattle.sqlite.specs.Steps.{IsFresh};
 ghost use Rattle.sqlite_store.specs.FileStore.{view};
 ghost use Rattle.sqlite_trees.specs.View.{IsClean};
-ghost use Rattle.br_catalog_files.specs.FileCatalogue.{IsClosed, IsOpened};
+ghost use Rattle.br_catalog_files.specs.FileCatalogue.{IsClosed, IsOpened, OfFoundRows};
 ghost use Rattle.br_catalog_rows.specs.Fault.{fault_number};
+ghost use Rattle.br_catalog_rows.specs.Load.{read_history};
 ghost use Rattle.br_store.specs.Calls.{IsJustOpened, WhileClean};
 ghost use Rattle.br_store.specs.Look.{look_number};
 ghost use Rattle.br_store.specs.Made.{Finds};
@@ -64,18 +65,28 @@ fn open(rt: &HostRuntime, db: &str) -> Result<Store<FileStore<File>>, StoreFault
     opened(rt.alloc(), conn)
 }
 
-/// Loads the jobs of a catalogue.
-fn load_from<S: Alter + Drop>(alloc: Global, conn: Connection<S>) -> Result<History, StoreFault>
+/// Loads the jobs of a catalogue. Returns them and its connection.
+fn load_from<S: Alter + Drop>(
+    alloc: Global,
+    conn: Connection<S>,
+) -> Result<(History, Connection<S>), StoreFault>
     requires { IsJustOpened S.Store conn }
+    ensures { IfOk result (λ r. WhileClean S.Store r.1 (λ _.
+        OfFoundRows (state S.Store conn).committed (λ rows. read_history rows ≡ Ok r.0))) }
 {
-    opened(alloc, conn)?.load_history()
+    let mut store = opened(alloc, conn)?;
+    let history = store.load_history()?;
+    Ok((history, store.into_connection()))
 }
 
-/// Loads the jobs in the file of a catalogue. The file is only read.
+/// Loads the jobs in the file of a catalogue and its log. Both are only read.
 fn load(rt: &HostRuntime, db: &str) -> Result<History, CatalogueFault> {
     let mut sight = HostSight::new(rt, db).map_err(look_fault)?;
     match look(rt.alloc(), &mut sight) {
-        Ok(conn) => load_from(rt.alloc(), conn).map_err(catalogue_fault),
+        Ok(conn) => match load_from(rt.alloc(), conn) {
+            Ok((history, _conn)) => Ok(history),
+            Err(fault) => Err(catalogue_fault(fault)),
+        },
         Err(fault) => Err(look_fault(fault)),
     }
 }

@@ -4,12 +4,12 @@ use Rattle.std.specs.FinMap.{entries}
 use Rattle.br_model.specs.Bootstrap.{Group}
 use Rattle.br_model.specs.Meaning.{Hit, hits_of, pieces_of}
 use Rattle.br_model.specs.Name.{FileKey}
-use Rattle.br_model.specs.Text.{line}
+use Rattle.br_model.specs.Text.{is_empty, line}
 use Rattle.br_piece.specs.MissingLines.{report}
 use Rattle.br_records.specs.Outline.{Outlined, outlines_found}
 use Rattle.br_check.specs.Calls.{InTurn}
 use Rattle.br_check.specs.Conflicts.{conflict_lines}
-use Rattle.br_check.specs.Findings.{bytes_in, copy_lines, file_line, files_in, long_line, memory_for, name_line, volume_line}
+use Rattle.br_check.specs.Findings.{bytes_in, copy_lines, empty_line, file_line, files_in, long_line, memory_for, name_line, volume_line}
 use Rattle.br_check.specs.Label.{TellsVolume}
 use Rattle.br_check.specs.Search.{IsSearched, Searched, all_found}
 use Rattle.br_check.specs.Shown.{Moment, Shown}
@@ -32,11 +32,12 @@ keys_of os = map (λ (o : Outlined). o.key) os
 abbrev pub folder_lines : List Outlined → List ℕ
 folder_lines os = flat_map name_line os ++ flat_map long_line os ++ conflict_lines os
 
--- the lines of the files that a bootstrap asks for and does not get, of groups that get fewer files
--- than their counts, of files that can't be restored, of those that a folder can't take, and of
--- paths that come more than once
+-- the line of a bootstrap without a group, the lines of the files that a bootstrap asks for and does
+-- not get, of groups that get fewer files than their counts, of files that can't be restored, of
+-- those that a folder can't take, and of paths that come more than once
 abbrev pub lines_of : List Group → List (Option ℕ) → List Outlined → List ℕ
-lines_of groups counts os = report groups counts (keys_of os) ++ flat_map file_line os ++ folder_lines os ++ copy_lines os
+lines_of groups counts os =
+    empty_line (is_empty groups) ++ report groups counts (keys_of os) ++ flat_map file_line os ++ folder_lines os ++ copy_lines os
 
 -- The findings of a check: the volumes that can't be searched, the lines about labels, and the
 -- lines of the files. Also the number of files that would be restored, their bytes, and the memory

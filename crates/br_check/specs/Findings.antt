@@ -24,6 +24,12 @@ abbrev pub volume_line : Searched → List ℕ
 volume_line (Ok found) = []
 volume_line (Err why) = fault_line why
 
+-- ---- the bootstrap
+
+-- the line of a bootstrap that asks for nothing
+abbrev pub empty_line : Bool → List ℕ
+empty_line is_empty = if is_empty then line (codes "empty") else []
+
 -- ---- files
 
 -- session and index, each after a blank
@@ -61,13 +67,12 @@ is_on_disk kind = has_bytes kind || kind == 5
 abbrev pub is_no_name : ℕ → List ℕ → Bool
 is_no_name kind path = is_on_disk kind && (not (is_utf8 path) || (has_bytes kind && is_directory path))
 
--- the line of a file that a folder can't take
-abbrev pub no_name_line : FileKey → List ℕ → List ℕ
-no_name_line key path = line (codes "name" ++ key_text key ++ 32 ∷ escaped path)
-
--- the line of a file with an outline, if a folder can't take it
+-- the line of a file with an outline, if a folder can't take it: it skips files of other types
 abbrev pub name_by : FileKey → Outline → List ℕ
-name_by key o = if is_no_name o.kind o.path then no_name_line key o.path else []
+name_by key o =
+    if not (is_on_disk o.kind) then named_line (codes "skipped") (record { key = key; path = o.path })
+    else if is_no_name o.kind o.path then named_line (codes "name") (record { key = key; path = o.path })
+    else []
 
 -- the line of a file, if a folder can't take it; none for a fault
 abbrev pub name_line : Outlined → List ℕ

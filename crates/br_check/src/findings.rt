@@ -2,7 +2,7 @@
 ghost use Rattle.std.specs.Prelude.{◌≡◌, ◌++◌, flat_map, map, OnOk};
 ghost use Rattle.br_records.specs.Making.{file_fault};
 ghost use Rattle.br_records.specs.ShownRecords.{outlined};
-ghost use Rattle.br_check.specs.Findings.{fault_line, file_line, key_text, named_line, refused_line, stream_text, volume_line};
+ghost use Rattle.br_check.specs.Findings.{empty_line, fault_line, file_line, key_text, named_line, refused_line, stream_text, volume_line};
 
 use br_match::{Found, PieceFault};
 use br_records::{FileFault, Sketch};
@@ -51,8 +51,18 @@ pub(crate) fn push_volumes(
     Ok(())
 }
 
+/// Appends the line of a bootstrap that asks for nothing, if it is one.
+pub fn push_empty(text: &mut Vec<u8>, is_empty: bool) -> Result<(), AllocError>
+    ensures { OnOk result (text.new.items ≡ text.old.items ++ empty_line is_empty) }
+{
+    if is_empty {
+        return text.extend_from_slice(b"empty\n");
+    }
+    Ok(())
+}
+
 /// Appends session and index of a file.
-pub(crate) fn push_key(text: &mut Vec<u8>, key: FileKey) -> Result<(), AllocError>
+fn push_key(text: &mut Vec<u8>, key: FileKey) -> Result<(), AllocError>
     ensures { OnOk result (text.new.items ≡ text.old.items ++ key_text key) }
 {
     text.push(b' ')?;

@@ -25,5 +25,6 @@ mod run;
 mod search;
 
 pub use checksum_pieces::push_checksums;
+pub use findings::push_empty;
 pub use laws::{conflicts_stop, results_hold_throughout};
 pub use run::{Checked, check};

@@ -3,11 +3,11 @@ ghost use Rattle.std.specs.Prelude.{◌≡◌, ◌++◌, flat_map, map, OnOk};
 ghost use Rattle.std.specs.Str.{is_utf8};
 ghost use Rattle.br_model.specs.File as model;
 ghost use Rattle.br_records.specs.ShownRecords.{outlined};
-ghost use Rattle.br_check.specs.Findings.{is_no_name, is_on_disk, name_by, name_line, no_name_line};
+ghost use Rattle.br_check.specs.Findings.{is_no_name, is_on_disk, name_by, name_line};
 
-use crate::findings::push_key;
+use crate::findings::push_named;
 use br_records::{Outline, Sketch, has_bytes};
-use br_types::{FileKey, is_directory_path, push_escaped};
+use br_types::{FileKey, is_directory_path};
 use std::alloc::AllocError;
 
 /// Returns if a path is UTF-8.
@@ -35,24 +35,15 @@ fn is_no_name(kind: u32, path: &[u8]) -> bool
     is_on_disk(kind) && (!is_text(path) || (has_bytes(kind) && is_directory_path(path)))
 }
 
-/// Appends the line of a file that a folder can't take.
-fn push_no_name(text: &mut Vec<u8>, key: FileKey, path: &[u8]) -> Result<(), AllocError>
-    ensures { OnOk result (text.new.items ≡ text.old.items ++ no_name_line key path.now) }
-{
-    text.extend_from_slice(b"name")?;
-    push_key(text, key)?;
-    text.push(b' ')?;
-    push_escaped(text, path)?;
-    text.push(b'\n')?;
-    Ok(())
-}
-
-/// Appends the line of a file with an outline, if a folder can't take it.
+/// Appends the line of a file with an outline, if a folder can't take it or skips it.
 fn push_outlined(text: &mut Vec<u8>, key: FileKey, outline: &Outline) -> Result<(), AllocError>
     ensures { OnOk result (text.new.items ≡ text.old.items ++ name_by key outline.now) }
 {
+    if !is_on_disk(outline.kind) {
+        return push_named(text, b"skipped", key, outline.path.bytes());
+    }
     if is_no_name(outline.kind, outline.path.bytes()) {
-        return push_no_name(text, key, outline.path.bytes());
+        return push_named(text, b"name", key, outline.path.bytes());
     }
     Ok(())
 }

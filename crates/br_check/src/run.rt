@@ -10,7 +10,7 @@ ghost use Rattle.br_volume.specs.Drive.{OnlyGrows};
 
 use crate::conflict_lines::push_conflicts;
 use crate::copies::push_copies;
-use crate::findings::{push_files, push_volumes};
+use crate::findings::{push_empty, push_files, push_volumes};
 use crate::label::push_labels;
 use crate::long::push_long;
 use crate::memory::held_beside;
@@ -132,9 +132,9 @@ fn push_folder_lines(
     push_conflicts(alloc, text, sketches)
 }
 
-/// Appends the lines of files: those that the bootstrap asks for and does not get, the groups that get fewer
-/// than their counts, the files that can't be restored, those that a folder can't take, and those whose paths
-/// come more than once.
+/// Appends the line of a bootstrap without a group, and the lines of files: those that the bootstrap asks for
+/// and does not get, the groups that get fewer than their counts, the files that can't be restored, those that
+/// a folder can't take, and those whose paths come more than once.
 fn push_lines(
     alloc: Global,
     text: &mut Vec<u8>,
@@ -144,6 +144,7 @@ fn push_lines(
 ) -> Result<(), AllocError>
     ensures { OnOk result (text.new.items ≡ text.old.items ++ lines_of groups.now counts.now (map outlined sketches.now)) }
 {
+    push_empty(text, groups.is_empty())?;
     let keys = keys_in(alloc, sketches)?;
     let missing = report(alloc, groups, counts, keys)?;
     text.extend_from_slice(&missing)?;
@@ -229,8 +230,8 @@ fn checked_of(
 }
 
 /// Checks a bootstrap over the volumes of a drive. Each finding is a line: the volumes that can't be
-/// searched, all of them; those whose labels name other volumes; the indexes that the bootstrap asks for and
-/// that are not there; the groups that get fewer files than their counts; the files that can't be restored;
+/// searched, all of them; those whose labels name other volumes; that the bootstrap has no group; the
+/// indexes that it asks for and that are not there; the groups that get fewer files than their counts; the files that can't be restored;
 /// those that a folder can't take, because their paths are no file names there, are too long, or
 /// conflict; and the copies of paths that come more than once. The memory is that of a restore
 /// which holds at most `budget` bytes of data.

@@ -1,5 +1,6 @@
 -- The end of a run that extracts files.
-use Rattle.std.specs.Prelude.{ℕ, Bool, ◌&&◌, List, [], map, Option, Some, None, Result, Ok, Err, if◌then◌else◌}
+use Rattle.std.specs.Prelude.{ℕ, Bool, true, false, ◌&&◌, List, [], ◌++◌, map, Option, Some, None, Result, Ok, Err, if◌then◌else◌}
+use Rattle.br_check.specs.Findings.{empty_line}
 use Rattle.br_model.specs.File.{Item}
 use Rattle.br_model.specs.Text.{is_empty}
 use Rattle.br_engine.specs.Fault.{fault_text}
@@ -29,9 +30,11 @@ end_status (Stopped stop) = 1
 abbrev pub is_whole : Extracted → List (List ℕ) → Bool
 is_whole done failed = is_empty done.missing.items && is_empty done.left.items && is_empty failed
 
--- 1 also if something is reported as missing or left out
-abbrev pub done_status : Extracted → List (List ℕ) → ℕ
-done_status done failed = if is_whole done failed then end_status done.end else 1
+-- 1 also if something is reported as missing or left out, or if all is to be reported and nothing is
+-- asked for
+abbrev pub done_status : Bool → Extracted → List (List ℕ) → ℕ
+done_status true done failed = 1
+done_status false done failed = if is_whole done failed then end_status done.end else 1
 
 -- the paths of the files at which a sink failed and that are left out, if there is a sink
 abbrev pub failed_paths : {S : Type 0} → Option (InLeaving S) → List (List ℕ)
@@ -39,9 +42,9 @@ failed_paths None = []
 failed_paths (Some sink) = map (λ (i : Item). i.path) sink.left
 
 -- 3 if reading or writing failed or the input has no end, 1 for any other fault
-abbrev pub run_status : Result Extracted ExtractFault → List (List ℕ) → ℕ
-run_status (Ok done) failed = done_status done failed
-run_status (Err fault) failed = fault_status fault
+abbrev pub run_status : Bool → Result Extracted ExtractFault → List (List ℕ) → ℕ
+run_status asks_nothing (Ok done) failed = done_status asks_nothing done failed
+run_status asks_nothing (Err fault) failed = fault_status fault
 
 -- the number of files that a restore with this end put into its sink
 abbrev pub extent_by : RestoreEnd → PutExtent
@@ -54,7 +57,8 @@ abbrev pub extent : Result Extracted ExtractFault → PutExtent
 extent (Ok done) = extent_by done.end
 extent (Err fault) = Part
 
--- the lines of what is missing and of what is left out, or the line of the refusal
-abbrev pub run_refusal : Result Extracted ExtractFault → List (List ℕ) → List ℕ
-run_refusal (Ok done) failed = done_lines done failed
-run_refusal (Err fault) failed = fault_text fault
+-- the line that nothing is asked for, and those of what is missing and of what is left out, or the
+-- line of the refusal
+abbrev pub run_refusal : Bool → Result Extracted ExtractFault → List (List ℕ) → List ℕ
+run_refusal asks_nothing (Ok done) failed = empty_line asks_nothing ++ done_lines done failed
+run_refusal asks_nothing (Err fault) failed = fault_text fault

@@ -11,8 +11,8 @@ ghost use Rattle.br_cli.specs.CheckCommand.{ChecksFor, ChecksTask, HasSums, chec
 use crate::extract_command::{BootstrapFile, ExtractStartFault, refuse, report_stream};
 use br_bsr::Bootstrap;
 use br_check::{Checked, check, push_checksums};
-use br_cli_common::{CLEAN, CheckOptions, Checksums, REFUSED};
-use br_cli_target::{BAD_STREAM, Ending};
+use br_cli_common::{BAD_STREAM, CLEAN, CheckOptions, Checksums, REFUSED};
+use br_cli_target::Ending;
 use br_engine::{ExtractFault, Flush, ReadBootstrap, show};
 use br_volume::{Drive, FolderDrive, HostDrive};
 use std::alloc::{AllocError, Global};

@@ -1,5 +1,5 @@
 //! The command `extract`.
-ghost use Rattle.std.specs.Prelude.{◌≡◌, length, not, option_map, None, Some, IfOk, IfSome, IsSome};
+ghost use Rattle.std.specs.Prelude.{◌≡◌, false, length, not, option_map, None, Some, IfOk, IfSome, IsSome};
 ghost use Rattle.br_cli_common.specs.Options.{AreFew};
 ghost use Rattle.br_pool.specs.Pool.{AreDrives};
 ghost use Rattle.br_volume.specs.HostDrives.{AreOver};
@@ -10,14 +10,15 @@ ghost use Rattle.br_engine.specs.Restores.{change};
 ghost use Rattle.br_cli.specs.ExtractTasks.{ExtractsTo, StreamsTo};
 
 use br_bsr::{Bootstrap, BsrFault};
-use br_cli_common::{CLEAN, ExtractOptions, REFUSED, Target, refuse_start};
+use br_check::push_empty;
+use br_cli_common::{BAD_STREAM, CLEAN, ExtractOptions, REFUSED, Target, refuse_start};
 use br_cli_progress::{Gauge, WatchedSink, WatchedWriter};
 use br_cli_target::{
-    BAD_STREAM, Channel, Ending, LeavingSink, PutExtent, Settle, Streamed, TarEnd, TarFault,
-    ToldOutcomes, add_tar_end, advise, end_stream, folder_of, gauge_of, lacks_volumes,
-    leaving_over, log_fault, refuse_log, refuse_place, restore_over, say_conflicts, say_files,
-    say_nowhere, say_stop, say_volumes, tar_into, tar_onto, tell_others, tell_outcomes,
-    with_watched_drives, with_watched_sink,
+    Channel, Ending, LeavingSink, PutExtent, Settle, Streamed, TarEnd, TarFault, ToldOutcomes,
+    add_tar_end, advise, end_stream, folder_of, gauge_of, lacks_volumes, leaving_over, log_fault,
+    refuse_log, refuse_place, restore_over, say_conflicts, say_files, say_nowhere, say_stop,
+    say_volumes, tar_into, tar_output, tell_others, tell_outcomes, with_watched_drives,
+    with_watched_sink,
 };
 use br_engine::{
     ExtractFault, Extracted, Flush, ReadBootstrap, Restore, RestoreEnd, RestoreOrder, read_text,
@@ -25,12 +26,11 @@ use br_engine::{
 use br_sink::{Leaving, Sink};
 use br_sink_folder::FolderFault;
 use br_sink_tar::TarSink;
-use br_types::{Path, Start, Wanted};
+use br_types::{Gaps, Path, Start, Wanted};
 use br_volume::{Drive, HostDrive};
 use std::alloc::{AllocError, Global};
-use std::fs::File;
+use std::fs::{self, File};
 use std::io::{self, BufWriter, ErrorKind};
-use std::rt::Files;
 use std::sync::Wait;
 use std::thread::Threads;
 use thiserror::Error;
@@ -44,7 +44,7 @@ fn is_whole(done: &Extracted, failed: &[Path]) -> bool
 
 /// Returns the exit status of a restore that wrote its manifest.
 fn status_of(done: &Extracted, failed: &[Path]) -> u8
-    ensures { result ≡ done_status done.now failed.now }
+    ensures { result ≡ done_status false done.now failed.now }
 {
     match done.end {
         RestoreEnd::AllFiles if is_whole(done, failed) => CLEAN,
@@ -54,19 +54,26 @@ fn status_of(done: &Extracted, failed: &[Path]) -> u8
 
 /// Returns the exit status and the lines of what is missing, left out or refused for this result.
 /// `failed` are the paths of the files at which the sink failed and which are left out.
+/// `asks_nothing` is true if missing files are to be reported, and the bootstrap has no group.
 pub fn extract_ending(
     alloc: Global,
+    asks_nothing: bool,
     run: &Result<Extracted, ExtractFault>,
     failed: &[Path],
 ) -> Result<Ending, AllocError>
-    ensures status { IfOk result (λ ending. ending.status ≡ run_status run.now failed.now) }
-    ensures refusal { IfOk result (λ ending. ending.refusal.items ≡ run_refusal run.now failed.now) }
+    ensures status { IfOk result (λ ending. ending.status ≡ run_status asks_nothing run.now failed.now) }
+    ensures refusal { IfOk result (λ ending. ending.refusal.items ≡ run_refusal asks_nothing run.now failed.now) }
 {
     let mut refusal = Vec::new(alloc);
     let status = match run {
         Ok(done) => {
+            push_empty(&mut refusal, asks_nothing)?;
             done.push_lines(failed, &mut refusal)?;
-            status_of(done, failed)
+            if asks_nothing {
+                REFUSED
+            } else {
+                status_of(done, failed)
+            }
         }
         Err(ExtractFault::Io(_) | ExtractFault::NoEnd(_)) => BAD_STREAM,
         Err(fault) => {
@@ -123,7 +130,8 @@ fn report(
     run: &Result<Extracted, ExtractFault>,
     (failed, end): (&[Path], Option<TarEnd>),
 ) -> io::Result<u8> {
-    let mut ending = extract_ending(rt.alloc(), run, failed)?;
+    let asks_nothing = given.wanted.gaps == Gaps::Reported && told.asks_nothing();
+    let mut ending = extract_ending(rt.alloc(), asks_nothing, run, failed)?;
     if let Some(end) = end {
         add_tar_end(&mut ending, end)?;
     }
@@ -156,16 +164,29 @@ pub(crate) struct BootstrapFile<'p> {
     pub(crate) read: Result<ReadBootstrap, BsrFault>,
 }
 
+/// Returns the text of a bootstrap, as far as it can be one: of standard input for `-`, else of the
+/// file with this path. Nothing but a regular file is opened, since a pipe may never have a writer.
+fn text_at(rt: &HostRuntime, path: &str) -> Result<Vec<u8>, ExtractStartFault> {
+    if path == "-" {
+        let mut input = rt.reader();
+        return Ok(read_text(rt.alloc(), &mut input)?);
+    }
+    if !fs::metadata(rt, path)?.is_file() {
+        return Err(ExtractStartFault::NoFile);
+    }
+    let mut file = File::open(rt, path)?;
+    Ok(read_text(rt.alloc(), &mut file)?)
+}
+
 impl<'p> BootstrapFile<'p> {
-    /// Reads the file with this path, as far as it can be a bootstrap.
-    pub(crate) fn read<R: Files + AllocGlobal>(
-        rt: &R,
+    /// Reads the file with this path, or standard input for `-`, as far as it can be a bootstrap.
+    pub(crate) fn read(
+        rt: &HostRuntime,
         path: &'p str,
     ) -> Result<BootstrapFile<'p>, ExtractStartFault>
         ensures { IfOk result (λ file. file.path.now ≡ path.entry.now) }
     {
-        let mut file = File::open(rt, path)?;
-        let text = read_text(rt.alloc(), &mut file)?;
+        let text = text_at(rt, path)?;
         Ok(BootstrapFile {
             path,
             read: ReadBootstrap::read(rt.alloc(), &text),
@@ -193,6 +214,9 @@ pub enum ExtractStartFault {
     /// The file of the bootstrap can't be read, or memory ran out.
     #[error("{0}")]
     Io(io::Error),
+    /// Something else than a file is in the place of the bootstrap.
+    #[error("no regular file; - stands for standard input")]
+    NoFile,
     /// The file of the bootstrap has no end.
     #[error("{0}")]
     Text(ExtractFault),
@@ -293,11 +317,7 @@ pub(crate) fn refuse(rt: &HostRuntime, bsr: &str, fault: ExtractStartFault) -> i
         ExtractStartFault::Folder(fault) => refuse_start(rt, fault.number()),
         ExtractStartFault::Tar(fault) => refuse_start(rt, fault.number()),
         ExtractStartFault::Io(e) if e.kind() == ErrorKind::OutOfMemory => Err(e),
-        ExtractStartFault::Io(e) => {
-            eprintln!(rt; "brestore: {bsr}: {e}")?;
-            Ok(BAD_STREAM)
-        }
-        ExtractStartFault::Text(fault) => {
+        fault => {
             eprintln!(rt; "brestore: {bsr}: {fault}")?;
             Ok(BAD_STREAM)
         }
@@ -497,7 +517,7 @@ fn extract_onto<T: Channel + Drop, W: Channel + Drop>(
 ///
 /// Returns the exit status: 0 if nothing was refused and each outcome is a file; 1 if something was
 /// refused, left out or is reported as missing, or some outcome is not a file; 3 if the bootstrap could not
-/// be read, the log could not be opened or the manifest could not be written.
+/// be read, or the log or the manifest could not be written.
 ///
 /// # Errors
 ///
@@ -509,8 +529,11 @@ pub fn extract_files(
 ) -> io::Result<u8>
     requires few { AreFew given.now.drives }
 {
-    match gauge_of(rt, given.volumes, given.progress, given.log) {
-        Ok(gauge) => extract_told(rt, threads, &gauge, given),
+    match gauge_of(rt, given.volumes, given.target, given.progress, given.log) {
+        Ok(gauge) => {
+            let status = extract_told(rt, threads, &gauge, given)?;
+            gauge.end_log(status)
+        }
         Err(error) => refuse_log(rt, given.log, error),
     }
 }
@@ -531,7 +554,7 @@ fn extract_told(
             Ok(sink) => extract_onto(rt, threads, gauge, given, sink, io::writer(rt)),
             Err(fault) => refuse_told(rt, gauge, given, ExtractStartFault::Tar(fault)),
         },
-        Target::TarOutput => match tar_onto(rt.alloc(), io::writer(rt)) {
+        Target::TarOutput => match tar_output(rt) {
             Ok(sink) => extract_onto(rt, threads, gauge, given, sink, rt.stderr()),
             Err(fault) => refuse_told(rt, gauge, given, ExtractStartFault::Tar(fault)),
         },

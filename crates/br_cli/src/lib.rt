@@ -15,7 +15,7 @@ mod memory_script;
 mod migrate_command;
 mod serve_command;
 
-pub use br_cli_target::{BAD_STREAM, Ending, TarFault};
+pub use br_cli_target::{Ending, TarFault};
 pub use check_command::{CheckTask, check_ending, check_files, check_over, set_up_check};
 pub use explain_command::{explain_all, explain_number};
 pub use extract_command::{

@@ -13,7 +13,9 @@ use br_engine::{Budget, Flush};
 use br_keeper::{Catalogue, CatalogueFault, JobStore, Keeper, KeeperFault, Session};
 use br_volume::VolumeStore;
 use std::alloc::AllocError;
+use std::fs::OpenOptions;
 use std::io::{self, BufRead, BufReader, LineWriter};
+use std::os::unix::fs::OpenOptionsExt;
 use std::sync::Wait;
 use std::thread::Threads;
 use thiserror::Error;
@@ -148,6 +150,15 @@ fn end_serve<C: Catalogue>(
     }
 }
 
+/// Makes the empty file of a catalogue for its owner alone, if there is no file. The log beside it
+/// gets the rights of the file.
+fn make_own(rt: &HostRuntime, db: &str) {
+    let mut how = OpenOptions::new();
+    how.mode(0o600).write(true).create_new(true);
+    // If there is a file, or none can be made, opening the catalogue says what is wrong.
+    let _made = how.open(rt, db);
+}
+
 /// Runs the lines of a reader as a script over a catalogue in a file and volumes in a folder, and
 /// writes its answers to standard output, each line as soon as it is complete. A catalogue that
 /// can't be opened (45) or loaded (47) is refused on standard error before a line is read. After
@@ -169,6 +180,7 @@ pub fn serve_by_lines<C: Catalogue, R: BufRead + Drop>(
     ensures { IfOk result IsStatus }
 {
     let mut writer = LineWriter::new(rt.alloc(), io::writer(rt))?;
+    make_own(rt, given.db);
     match set_up_serve(rt, threads, catalogue, given) {
         Ok(setup) => {
             let budget = Budget {

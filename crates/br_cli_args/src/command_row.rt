@@ -30,6 +30,23 @@ fn command_of<'a>(alloc: Global, row: &CommandRow) -> Result<Command<'a>, AllocE
     with_options(alloc, restoring, row.by_bootstrap)
 }
 
+/// Returns the command of the row with this name, if there is one. In its usage it is one of the
+/// program.
+pub(crate) fn command_named<'a>(
+    alloc: Global,
+    rows: &[CommandRow],
+    name: &str,
+) -> Result<Option<Command<'a>>, AllocError> {
+    for row in rows {
+        if row.name == name {
+            let full = format!(in alloc; "brestore {name}")?;
+            let command = command_of(alloc, row)?;
+            return Ok(Some(command.bin_name(full.as_str())?));
+        }
+    }
+    Ok(None)
+}
+
 /// Returns the program with the commands of these rows added.
 pub(crate) fn with_commands<'a>(
     alloc: Global,

@@ -1,12 +1,14 @@
 //! The table of the commands, and the program that has them.
 ghost use Rattle.std.specs.Prelude.{◌≡◌, false, IfOk};
+ghost use Rattle.clap.specs.Values.{kind_of};
 ghost use Rattle.clap.specs.Words.{app_of};
 ghost use Rattle.clap.specs.declared.builder.command.Command.TheViews.{out-Command as fields_of};
 ghost use Rattle.br_cli_args.specs.ClapCommands.{program_app, with_all_commands};
 
-use crate::command_row::{CommandRow, with_commands};
+use crate::command_row::{CommandRow, command_named, with_commands};
 use crate::option_row::{OptionRow, ValueKind};
-use clap::Command;
+use clap::error::ErrorKind;
+use clap::{Command, Error};
 use std::alloc::{AllocError, Global};
 
 /// The option for the bootstrap.
@@ -14,7 +16,7 @@ const BSR: OptionRow = OptionRow {
     name: "bsr",
     value: "FILE",
     takes: ValueKind::Needed,
-    help: "The file of the bootstrap",
+    help: "The file of the bootstrap, - for standard input",
 };
 
 /// The option for the volumes.
@@ -38,7 +40,7 @@ const MEMORY: OptionRow = OptionRow {
     name: "memory",
     value: "SIZE",
     takes: ValueKind::Memory,
-    help: "The memory for data: bytes, or a number with K, M or G; what is beyond it is read again",
+    help: "The memory for data: bytes, or a number with K, M, G or T; what is beyond it is read again",
 };
 
 /// The options of every restore.
@@ -78,7 +80,7 @@ const RESTORING: [OptionRow; 7] = [
         name: "log",
         value: "FILE",
         takes: ValueKind::Value,
-        help: "The file to append a log to: each file as it is written, and what went wrong",
+        help: "The file to append a log to, - for standard error: each file as it is written, and what went wrong",
     },
 ];
 
@@ -269,6 +271,29 @@ fn with_table<'a>(alloc: Global, program: Command<'a>) -> Result<Command<'a>, Al
     ensures { IfOk result (λ r. app_of r ≡ with_all_commands (app_of program.entry)) }
 {
     with_commands(alloc, program, &COMMANDS)
+}
+
+/// Returns the fault of a command line, with the usage of the command with this name, or of the
+/// program if there is none.
+///
+/// # Errors
+///
+/// `AllocError` if memory runs out.
+pub(crate) fn error_of(
+    alloc: Global,
+    name: &str,
+    kind: ErrorKind,
+    text: &str,
+) -> Result<Error, AllocError>
+    ensures kind { IfOk result (λ error. kind_of error ≡ kind) }
+{
+    match command_named(alloc, &COMMANDS, name)? {
+        Some(mut command) => command.error(kind, text),
+        None => {
+            let mut command = program(alloc)?;
+            command.error(kind, text)
+        }
+    }
 }
 
 /// Returns the program with its commands and options, in clap's form.

@@ -15,7 +15,7 @@ ghost use Rattle.br_cli_args.specs.Words.{jobs_asked, migrate_asked, number_aske
 ghost use Rattle.br_cli_args.specs.Words.{kind_by, kind_in, tar_target, target, target_by};
 
 use crate::byte_size::read_size;
-use crate::command_table::program;
+use crate::command_table::{error_of, program};
 use br_cli_common::{
     CheckOptions, Checksums, Clock, ConsoleOptions, ExtractOptions, Invocation, JobsOptions,
     Progress, ServeOptions, Syncs, Target,
@@ -486,22 +486,38 @@ fn text_of_fault(matches: &ArgMatches<'_>, kind: ErrorKind) -> &'static str {
             "the argument '--into <DIR>' cannot be used with '--tar <FILE>'"
         }
         ErrorKind::ValueValidation => {
-            "the value of '--memory <SIZE>' is no number of bytes below 2^64, alone or with K, M or G"
+            "the value of '--memory <SIZE>' is no number of bytes below 2^64, alone or with K, M, G or T"
         }
         _ if is_resumed(matches) => "the argument '--resume' must be given with '--into <DIR>'",
         _ => "the arguments '--db <FILE>' and '--volumes <DIR>' must be given together",
     }
 }
 
-/// Returns the command that was found, if all its required options were; else the kind of fault and
-/// its message.
-fn found_in<'a>(matches: &ArgMatches<'a>) -> (Option<Invocation<'a>>, ErrorKind, &'static str)
+/// Returns the name of the subcommand that was found; an empty name if there is none.
+fn name_found<'a>(matches: &ArgMatches<'a>) -> &'a str {
+    match found_command(matches) {
+        None => "",
+        Some((name, _)) => name,
+    }
+}
+
+/// What was found in a command line: the command, if all its required options were found; else the
+/// kind of fault and its message; and the name of the subcommand.
+type Found<'a> = (Option<Invocation<'a>>, ErrorKind, &'static str, &'a str);
+
+/// Returns what was found in a command line.
+fn found_in<'a>(matches: &ArgMatches<'a>) -> Found<'a>
     ensures asked { option_map asked result.0 ≡ asked_by (subcommand_rows_of matches.now) }
     ensures drives { IfSome result.0 HasDrives }
     ensures kind { result.1 ≡ kind_by (subcommand_rows_of matches.now) }
 {
     let kind = kind_of_fault(matches);
-    (invocation_of(matches), kind, text_of_fault(matches, kind))
+    (
+        invocation_of(matches),
+        kind,
+        text_of_fault(matches, kind),
+        name_found(matches),
+    )
 }
 
 /// Returns what clap finds in the words of a command line.
@@ -515,16 +531,20 @@ fn parsed<'a>(command: &mut Command<'a>, words: &'a [String]) -> Result<ArgMatch
 }
 
 /// Reads words by the program's commands.
-fn read_by<'a>(command: &mut Command<'a>, words: &'a [String]) -> Result<Invocation<'a>, Error>
+fn read_by<'a>(
+    alloc: Global,
+    command: &mut Command<'a>,
+    words: &'a [String],
+) -> Result<Invocation<'a>, Error>
     requires { app_of command.old ≡ program_app }
     ensures asks { IfOk result (λ invocation. words_asked (map string_bytes words.entry.now) ≡ Some (asked invocation)) }
     ensures fails { FailsBy (words_fault (map string_bytes words.entry.now)) result }
     ensures drives { IfOk result HasDrives }
 {
-    let (found, kind, text) = found_in(&parsed(command, words)?);
+    let (found, kind, text, name) = found_in(&parsed(command, words)?);
     match found {
         Some(invocation) => Ok(invocation),
-        None => Err(command.error(kind, text)?),
+        None => Err(error_of(alloc, name, kind, text)?),
     }
 }
 
@@ -536,8 +556,8 @@ fn read_by<'a>(command: &mut Command<'a>, words: &'a [String]) -> Result<Invocat
 /// `explain [N]` and `serve`. The first two also take `--into DIR` or `--tar FILE`, `--drives N`,
 /// `--sync`, `--quiet` and `--log FILE`. The first takes `--newest`, `--complete`, `--keep-going` and, with
 /// `--into`, `--resume`. The last takes `--db FILE` and `--volumes DIR`, both or neither. All that
-/// restore, and `check`, take `--memory SIZE`: bytes, or a number with K, M or G. No command is the
-/// same as `serve`.
+/// restore, and `check`, take `--memory SIZE`: bytes, or a number with K, M, G or T. No command is
+/// the same as `serve`.
 ///
 /// # Errors
 ///
@@ -549,5 +569,5 @@ pub fn read_words<'a>(alloc: Global, words: &'a [String]) -> Result<Invocation<'
     ensures drives { IfOk result HasDrives }
 {
     let mut command = program(alloc)?;
-    read_by(&mut command, words)
+    read_by(alloc, &mut command, words)
 }

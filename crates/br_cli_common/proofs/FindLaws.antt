@@ -1,11 +1,12 @@
 -- The row with a number.
-use Rattle.std.proofs.Common.{◌≡◌, ◌∙◌, ◌==◌, ◌||◌, ℕ, Bool, true, false, cond, List, [], ◌∷◌, Option, Some, None, refl, ap, sym, map, option_map}
+use Rattle.std.proofs.Common.{◌≡◌, ◌∙◌, ◌==◌, ◌||◌, ℕ, Bool, true, false, cond, List, [], ◌∷◌, Option, Some, None, refl, ap, map, option_map}
 use Rattle.std.specs.Borrow.{Bor}
 use Rattle.std.specs.Prelude.{IfSome, find, is_some}
 use Rattle.std.specs.List.{list_any}
 use Rattle.std.proofs.lemmas.Bool.{eqb-true}
 use Rattle.br_cli_common.specs.declared.refusal.Refusal.{Refusal}
-use Rattle.br_cli_common.specs.RefusalRows.{Row, row_of}
+use Rattle.br_cli_common.specs.RefusalTable.{explained}
+use Rattle.br_cli_common.specs.RefusalRows.{Row, all_rows, row_of}
 
 or_step : (b : Bool) (row : Refusal) (found : Option Refusal) (rest : Bool) → is_some found ≡ rest → is_some (cond b (Some row) found) ≡ (b || rest)
 or_step true row found rest e = refl
@@ -60,3 +61,11 @@ row_seen (Some row) = refl
 pub found_row : (r : Option (Bor Refusal)) (rows : List Refusal) (number : ℕ) → option_map (λ row. row.now) r ≡ find (λ row. row.number == number) rows
     → option_map (λ row. row_of row.now) r ≡ find (λ row. row.number == number) (map row_of rows)
 found_row r rows number is = row_seen r ∙ ap (option_map row_of) is ∙ is_found_row number rows
+
+numbers_seen : (rows : List Refusal) → map (λ row. row.number) rows ≡ map (λ (r : Row). r.number) (map row_of rows)
+numbers_seen [] = refl
+numbers_seen (row ∷ more) = ap (λ (ns : List ℕ). row.number ∷ ns) (numbers_seen more)
+
+-- the numbers of the table's rows
+pub numbers_are : (rows : List Refusal) → map row_of rows ≡ all_rows → map (λ row. row.number) rows ≡ explained
+numbers_are rows is = numbers_seen rows ∙ ap (map (λ (r : Row). r.number)) is

@@ -36,13 +36,13 @@ all_rows =
     (codes "Try another copy; without one, choose an earlier moment.") ∷
     row_with 12 (codes "Truncated")
     (codes "The volume ends inside a block header, or inside a block that the restore needs.")
-    (codes "Copy the volume again, since the copy is probably incomplete; without a whole one, choose an earlier moment.") ∷
+    (codes "Copy the volume again, since it is probably cut off; without a whole one, choose an earlier moment.") ∷
     row_with 13 (codes "DriveFault")
     (codes "A drive failed while it read a volume.")
-    (codes "A restore reads on with the other drives, or prints 70. If `check` prints it, do what 70 says.") ∷
+    (codes "A restore reads on with others; after `check` do what 70 says.") ∷
     row_with 14 (codes "UnknownVolume")
     (codes "The volume is not in the folder of volumes.")
-    (codes "Copy the volume into the folder under exactly the printed name, or correct `--volumes`.") ∷
+    (codes "Copy it there under exactly this name, or correct `--volumes`. If it is lost, delete its groups from the bootstrap, or choose an earlier moment.") ∷
     row_with 15 (codes "TooLarge")
     (codes "A file to be saved has more than 1,073,741,824 bytes.")
     (codes "Only library calls return it: save the file in smaller parts.") ∷
@@ -95,8 +95,8 @@ all_rows =
     (codes "Bytes could not be appended to a volume or synced, or its length not read.")
     (codes "Free memory, or check space and permissions; then name another volume in `place`.") ∷
     row_with 45 (codes "StoreFault")
-    (codes "The catalogue is missing, in use, cannot be opened, or is no sound database with the tables of this program.")
-    (codes "Check `--db`. If a `-wal` lies beside the file, let `serve` open it once, in a folder that can be written. If the file has a second name (a hard link), copy it. Else try another copy, or restore by a bootstrap with `extract`; import a catalogue that Bacula made.") ∷
+    (codes "The catalogue is missing, empty, in use, cannot be opened, or is no sound database with the tables of this program.")
+    (codes "Check `--db`. If a `-journal` lies beside the file, let `sqlite3` open it once, in a folder that can be written. Copy a file that has a second name (a hard link). Else try another copy, or restore by a bootstrap with `extract`; import a catalogue of Bacula's.") ∷
     row_with 46 (codes "StoredNotPublished")
     (codes "The job is in the catalogue, but restores do not see it yet.")
     (codes "In a script, free memory and commit again, which publishes the job first.") ∷
@@ -129,7 +129,7 @@ all_rows =
     (codes "Look with `pwd` and `ls`, and type names without quotes or escapes. For a file go to its folder.") ∷
     row_with 57 (codes "NoMatch")
     (codes "Nothing in the current directory matches the pattern, or for `find` nothing at all.")
-    (codes "Type one name of this folder, without `/`, quotes or escapes: `cd` goes to another folder, and `ls` and `find` show names. Else choose another moment.") ∷
+    (codes "Type one name of this folder, without `/`, quotes or escapes; `cd` goes to another one, `ls` and `find` show names. Else choose another moment.") ∷
     row_with 58 (codes "StrangerPiece")
     (codes "The hits that were handed in belong to a piece that the restore does not have.")
     (codes "Only library calls return it: hand in hits of the restore's own pieces.") ∷
@@ -147,10 +147,10 @@ all_rows =
     (codes "Give the groups of a bootstrap in the order of writing; else try another copy or choose an earlier moment.") ∷
     row_with 63 (codes "NoAttributes")
     (codes "The volumes have no attribute record of the file, or no part at all of a planned file.")
-    (codes "Copy the volume again, since it may be cut, and check that volumes and catalogue belong together; else try another copy or choose an earlier moment.") ∷
+    (codes "Copy the volume again, since it may be cut, and check that it belongs to the catalogue; else try another copy or choose an earlier moment.") ∷
     row_with 64 (codes "BadAttributes")
     (codes "The file has two attribute records, or one that cannot be read.")
-    (codes "Try another copy or choose an earlier moment.") ∷
+    (codes "Try another copy or choose an earlier moment; of a Virtual Full use `bextract`.") ∷
     row_with 65 (codes "Unsupported")
     (codes "The file has data of a stream that is not supported, such as compressed data; the stream's number follows.")
     (codes "Restore the file with Bacula's `bextract`; if its data are encrypted or of Windows, with the Director and the client.") ∷
@@ -168,16 +168,16 @@ all_rows =
     (codes "Try another copy, and check that volumes and catalogue belong together; else choose an earlier moment.") ∷
     row_with 70 (codes "NoDriveLeft")
     (codes "Every drive failed before all volumes were read.")
-    (codes "Check that `--volumes` names a folder, check permissions and the system's log, and run the command again or try another copy.") ∷
+    (codes "Check that `--volumes` is a folder, permissions and the system's log; run the command again or try another copy.") ∷
     row_with 71 (codes "MissingSeat")
     (codes "A thread's list of the numbers that it drew is missing.")
     (codes "Only library calls return it: keep the list of each thread.") ∷
     row_with 72 (codes "VolumeChanged")
     (codes "A volume was changed during the restore: bytes of a file are no longer what they were.")
-    (codes "A backup only appends to a volume: find out who changes it. Run the command again when nobody does, or try another copy.") ∷
+    (codes "Find out who changes it, since a backup only appends. Run the command again when nobody does, or try another copy.") ∷
     row_with 80 (codes "SinkFault")
     (codes "A file or folder could not be written, or its path is not UTF-8.")
-    (codes "The first file of the manifest that is not whole in the folder is the one: check space and whether you may write there, or leave it out.") ∷
+    (codes "The first file of the manifest that is not whole is the one: check space and whether you may write there, or leave it out.") ∷
     row_with 81 (codes "PathInTheWay")
     (codes "The folder of `--into` does not exist or is not empty, or the file of `--tar` is there already; or one path of the restore is both a file and a folder.")
     (codes "Make an empty folder for `--into`, or name a new file for `--tar`; if the manifest was printed, restore the two paths into two folders.") ∷

@@ -39,6 +39,8 @@ pub enum Matter {
     Taken(Thing),
     /// A folder is there that is not empty.
     NotEmpty,
+    /// A stream of bytes would go to a terminal.
+    Terminal,
     /// The system refuses the path.
     Refused(io::Error),
     /// The system refuses to read the path.
@@ -58,6 +60,7 @@ impl fmt::Display for Matter {
             Matter::Kept => f.write_str("is a file that can't be read or replaced"),
             Matter::Taken(thing) => write!(f, "is {thing} already"),
             Matter::NotEmpty => f.write_str("is a folder that is not empty"),
+            Matter::Terminal => f.write_str("is a terminal"),
             Matter::Refused(error) => write!(f, "is refused by the system: {error}"),
             Matter::Unread(error) => write!(f, "can't be read: {error}"),
             Matter::Unwritten => {
@@ -109,6 +112,7 @@ impl Matter {
             Matter::NotEmpty => {
                 "Choose an empty folder; `extract --resume` goes on with a restore that was cut off."
             }
+            Matter::Terminal => "Name a file, or send the stream to another program.",
             Matter::Refused(error) => next_after(error.kind()),
             Matter::Unread(error) => next_after_reading(error.kind()),
             Matter::Unwritten => "Free space (`df` shows it), or choose a folder on another disk.",

@@ -1,7 +1,7 @@
 //! What the commands have in common: their options as plain values, the exit statuses, and what
 //! they print at a terminal besides what the formats fix.
 //!
-//! `REFUSALS` is the table of the refusal numbers and the numbers of outcomes: for each its name,
+//! `refusals` returns the table of the refusal numbers and the numbers of outcomes: for each its name,
 //! what it means and what to do next. `explain` looks up a number, `push_refusals` writes rows as
 //! text, and `push_words` the two lines that are printed beside a refusal. `specs/RefusalRows.antt`
 //! and the table of docs/RESTORING.md have the same words.
@@ -30,9 +30,8 @@ pub use options::{
     Progress, ServeOptions, Syncs, Target,
 };
 pub use prompt::{Prompted, greet, is_attended, with_prompt};
-pub use refusal::{Refusal, explain};
+pub use refusal::{Refusal, explain, refusals};
 pub use refusal_lines::{push_with_words, push_words, refused_number};
-pub use refusal_table::REFUSALS;
 pub use refusal_text::push_refusals;
 pub use refusal_words::{is_shown, tell_refusal, tell_refusals};
-pub use status::{CLEAN, REFUSED, refuse_start};
+pub use status::{BAD_COMMAND, BAD_STREAM, CLEAN, REFUSED, refuse_start};

@@ -41,11 +41,18 @@ fn row_in(refusals: &'static [Refusal], number: u32) -> Option<&'static Refusal>
     find_in(refusals, number)
 }
 
+/// Returns the rows of the table, in order of number.
+pub fn refusals() -> &'static [Refusal]
+    ensures { map row_of result.now ≡ all_rows }
+{
+    &REFUSALS
+}
+
 /// Returns the row of the table with this number; `None` if no refusal and no outcome has it.
 pub fn explain(number: u32) -> Option<&'static Refusal>
     ensures row { option_map (λ r. row_of r.now) result ≡ find (λ r. r.number == number) all_rows }
     ensures known { is_some result ≡ list_any (λ n. n == number) explained }
     ensures number { IfSome result (λ row. row.now.number ≡ number) }
 {
-    row_in(&REFUSALS, number)
+    row_in(refusals(), number)
 }

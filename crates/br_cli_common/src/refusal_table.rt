@@ -1,7 +1,7 @@
 use crate::refusal::Refusal;
 
 /// The refusals and the outcomes, in order of number.
-pub const REFUSALS: [Refusal; 55] = [
+pub(crate) const REFUSALS: [Refusal; 55] = [
     Refusal {
         number: 1,
         name: "Memory",
@@ -36,19 +36,19 @@ pub const REFUSALS: [Refusal; 55] = [
         number: 12,
         name: "Truncated",
         meaning: "The volume ends inside a block header, or inside a block that the restore needs.",
-        next: "Copy the volume again, since the copy is probably incomplete; without a whole one, choose an earlier moment.",
+        next: "Copy the volume again, since it is probably cut off; without a whole one, choose an earlier moment.",
     },
     Refusal {
         number: 13,
         name: "DriveFault",
         meaning: "A drive failed while it read a volume.",
-        next: "A restore reads on with the other drives, or prints 70. If `check` prints it, do what 70 says.",
+        next: "A restore reads on with others; after `check` do what 70 says.",
     },
     Refusal {
         number: 14,
         name: "UnknownVolume",
         meaning: "The volume is not in the folder of volumes.",
-        next: "Copy the volume into the folder under exactly the printed name, or correct `--volumes`.",
+        next: "Copy it there under exactly this name, or correct `--volumes`. If it is lost, delete its groups from the bootstrap, or choose an earlier moment.",
     },
     Refusal {
         number: 15,
@@ -155,8 +155,8 @@ pub const REFUSALS: [Refusal; 55] = [
     Refusal {
         number: 45,
         name: "StoreFault",
-        meaning: "The catalogue is missing, in use, cannot be opened, or is no sound database with the tables of this program.",
-        next: "Check `--db`. If a `-wal` lies beside the file, let `serve` open it once, in a folder that can be written. If the file has a second name (a hard link), copy it. Else try another copy, or restore by a bootstrap with `extract`; import a catalogue that Bacula made.",
+        meaning: "The catalogue is missing, empty, in use, cannot be opened, or is no sound database with the tables of this program.",
+        next: "Check `--db`. If a `-journal` lies beside the file, let `sqlite3` open it once, in a folder that can be written. Copy a file that has a second name (a hard link). Else try another copy, or restore by a bootstrap with `extract`; import a catalogue of Bacula's.",
     },
     Refusal {
         number: 46,
@@ -222,7 +222,7 @@ pub const REFUSALS: [Refusal; 55] = [
         number: 57,
         name: "NoMatch",
         meaning: "Nothing in the current directory matches the pattern, or for `find` nothing at all.",
-        next: "Type one name of this folder, without `/`, quotes or escapes: `cd` goes to another folder, and `ls` and `find` show names. Else choose another moment.",
+        next: "Type one name of this folder, without `/`, quotes or escapes; `cd` goes to another one, `ls` and `find` show names. Else choose another moment.",
     },
     Refusal {
         number: 58,
@@ -258,13 +258,13 @@ pub const REFUSALS: [Refusal; 55] = [
         number: 63,
         name: "NoAttributes",
         meaning: "The volumes have no attribute record of the file, or no part at all of a planned file.",
-        next: "Copy the volume again, since it may be cut, and check that volumes and catalogue belong together; else try another copy or choose an earlier moment.",
+        next: "Copy the volume again, since it may be cut, and check that it belongs to the catalogue; else try another copy or choose an earlier moment.",
     },
     Refusal {
         number: 64,
         name: "BadAttributes",
         meaning: "The file has two attribute records, or one that cannot be read.",
-        next: "Try another copy or choose an earlier moment.",
+        next: "Try another copy or choose an earlier moment; of a Virtual Full use `bextract`.",
     },
     Refusal {
         number: 65,
@@ -300,7 +300,7 @@ pub const REFUSALS: [Refusal; 55] = [
         number: 70,
         name: "NoDriveLeft",
         meaning: "Every drive failed before all volumes were read.",
-        next: "Check that `--volumes` names a folder, check permissions and the system's log, and run the command again or try another copy.",
+        next: "Check that `--volumes` is a folder, permissions and the system's log; run the command again or try another copy.",
     },
     Refusal {
         number: 71,
@@ -312,13 +312,13 @@ pub const REFUSALS: [Refusal; 55] = [
         number: 72,
         name: "VolumeChanged",
         meaning: "A volume was changed during the restore: bytes of a file are no longer what they were.",
-        next: "A backup only appends to a volume: find out who changes it. Run the command again when nobody does, or try another copy.",
+        next: "Find out who changes it, since a backup only appends. Run the command again when nobody does, or try another copy.",
     },
     Refusal {
         number: 80,
         name: "SinkFault",
         meaning: "A file or folder could not be written, or its path is not UTF-8.",
-        next: "The first file of the manifest that is not whole in the folder is the one: check space and whether you may write there, or leave it out.",
+        next: "The first file of the manifest that is not whole is the one: check space and whether you may write there, or leave it out.",
     },
     Refusal {
         number: 81,

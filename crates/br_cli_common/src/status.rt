@@ -11,6 +11,12 @@ pub const CLEAN: u8 = 0;
 /// The exit status if something was refused, or some outcome is not a file.
 pub const REFUSED: u8 = 1;
 
+/// The exit status for a fault of the command line.
+pub const BAD_COMMAND: u8 = 2;
+
+/// The exit status for a fault of the program's own files and streams.
+pub const BAD_STREAM: u8 = 3;
+
 /// Prints a refusal to standard error before any line is read, and explains it to a terminal.
 /// Returns the exit status.
 ///

@@ -17,13 +17,13 @@ ghost use Rattle.br_cli_console.specs.declared.console_command.ConsoleStartFault
 use crate::chosen_jobs::tell_chosen;
 use crate::helped_reader::{Helped, with_help};
 use crate::jobs_command::jobs_in;
-use br_cli_common::{CLEAN, ConsoleOptions, Prompted, REFUSED, Target, with_prompt};
+use br_cli_common::{BAD_STREAM, CLEAN, ConsoleOptions, Prompted, REFUSED, Target, with_prompt};
 use br_cli_progress::{Gauge, WatchedSink, WatchedWriter};
 use br_cli_target::{
-    BAD_STREAM, Channel, Ending, PutExtent, ResumingSink, Settle, Streamed, TarFault, ToldOutcomes,
+    Channel, Ending, PutExtent, ResumingSink, Settle, Streamed, TarFault, ToldOutcomes,
     add_tar_end, end_stream, folder_of, gauge_of, lacks_volumes, log_fault, refuse_log,
     refuse_place, restore_over, resuming_over, say_nowhere, say_stop, say_volumes, tar_into,
-    tar_onto, tell_outcomes, with_watched_drives, with_watched_sink,
+    tar_output, tell_outcomes, with_watched_drives, with_watched_sink,
 };
 use br_console::{ConsoleFault, ConsoleRun, End, LineVerdict, run_console};
 use br_engine::{Flush, Restore, RestoreEnd};
@@ -384,7 +384,7 @@ fn restore_into<C: Catalogue>(
     };
     let mut restore = with_watched_sink(with_watched_drives(restore, gauge)?, gauge);
     let asked = jobs.selection(rt.alloc());
-    let is_warned = tell_chosen(rt, &asked)?;
+    let is_warned = tell_chosen(rt, &asked, given.volumes)?;
     let mut reader = lines_of(rt, &asked)?;
     let mut writer = WatchedWriter::new(writer, gauge);
     let run = run_console(threads, &mut restore, &asked, &mut reader, &mut writer);
@@ -430,7 +430,7 @@ fn set_up_tar_output<'r, C: Catalogue>(
     ensures volumes { IfOk result (λ setup. AreOver given.now.volumes.now setup.1.drives.items) }
 {
     let request = request_of(rt.alloc(), given)?;
-    let sink = Some(tar_onto(rt.alloc(), io::writer(rt))?);
+    let sink = Some(tar_output(rt)?);
     set_up_over(rt, catalogue, given, request, sink)
 }
 
@@ -452,7 +452,7 @@ fn restore_onto<'r, T: Channel + Drop, W: Channel + Drop>(
     let (jobs, restore) = setup;
     let mut restore = with_watched_sink(with_watched_drives(restore, gauge)?, gauge);
     let asked = jobs.selection(rt.alloc());
-    let is_warned = tell_chosen(rt, &asked)?;
+    let is_warned = tell_chosen(rt, &asked, given.volumes)?;
     let mut reader = lines_of(rt, &asked)?;
     let mut writer = WatchedWriter::new(answers, gauge);
     let stream = console_stream(threads, &asked, &mut restore, &mut reader, &mut writer);
@@ -476,7 +476,7 @@ fn restore_onto<'r, T: Channel + Drop, W: Channel + Drop>(
 /// A line on standard error warns of each chosen job whose files are gone from the catalogue.
 ///
 /// Returns the exit status: 0 if nothing was refused and each outcome is a file; 1 if something was
-/// refused, some outcome is not a file, or there was a warning; 3 if the log could not be opened, or standard input or output
+/// refused, some outcome is not a file, or there was a warning; 3 if the log could not be written, or standard input or output
 /// failed.
 ///
 /// # Errors
@@ -490,8 +490,11 @@ pub fn restore_marked<C: Catalogue>(
 ) -> io::Result<u8>
     requires few { AreFew given.now.drives }
 {
-    match gauge_of(rt, given.volumes, given.progress, given.log) {
-        Ok(gauge) => restore_told(rt, threads, catalogue, &gauge, given),
+    match gauge_of(rt, given.volumes, given.target, given.progress, given.log) {
+        Ok(gauge) => {
+            let status = restore_told(rt, threads, catalogue, &gauge, given)?;
+            gauge.end_log(status)
+        }
         Err(error) => refuse_log(rt, given.log, error),
     }
 }

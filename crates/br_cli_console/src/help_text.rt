@@ -17,7 +17,7 @@ count                prints how many paths there are, and how many are marked
 estimate             prints how many paths are marked, and the bytes of their files
 done                 restores what is marked
 quit                 ends without a restore
-help                 prints this
+help                 prints this, as `?` does
 In a pattern `*` stands for any letters and `?` for one. A pattern names files of the folder: to mark
 `/etc/hosts`, first `cd /etc`, then `mark hosts`.
 ";

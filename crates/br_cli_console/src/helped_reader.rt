@@ -1,4 +1,4 @@
-//! A reader that answers `help` and `dir` itself.
+//! A reader that answers `help`, `dir` and some slips itself.
 
 use crate::help_text::HELP;
 use crate::local_command::{LocalCommand, asked_of, without_feed};
@@ -19,7 +19,8 @@ enum Way<'j> {
 }
 
 /// A reader of the lines of a console session. If an operator attends, it takes out the lines
-/// `help` and `dir` and answers them on standard error. A terminal gives one line to each read.
+/// `help` and `dir`, empty ones and those of other programs, and answers them on standard error. A
+/// terminal gives one line to each read.
 #[derive(Drop)]
 pub struct Helped<'a, 'j, 'r, I> {
     rt: &'r HostRuntime,
@@ -84,7 +85,7 @@ impl<'j, I: Read> Helped<'_, 'j, '_, I> {
         }
     }
 
-    /// Answers a line if it is `help` or `dir`. Returns false if the line is for the console.
+    /// Answers a line if it is one for the terminal. Returns false if the line is for the console.
     fn answer(&mut self, line: &[u8]) -> io::Result<bool> {
         match asked_of(line) {
             LocalCommand::Help => self.rt.stderr().write_all(HELP)?,
@@ -92,6 +93,16 @@ impl<'j, I: Read> Helped<'_, 'j, '_, I> {
                 Ok(text) => self.rt.stderr().write_all(&text)?,
                 Err(fault) => eprintln!(self.rt; "dir: {fault}")?,
             },
+            LocalCommand::Nothing => {}
+            LocalCommand::Exit => {
+                eprintln!(self.rt;
+                    "`quit` ends without a restore, `done` restores what is marked."
+                )?
+            }
+            LocalCommand::LongList => eprintln!(self.rt; "`dir` lists with sizes and moments.")?,
+            LocalCommand::Folder => {
+                eprintln!(self.rt; "`cd /` goes to the top, `cd ..` up, `pwd` prints the folder.")?
+            }
             LocalCommand::Other => {
                 self.note(without_feed(line))?;
                 return Ok(false);
@@ -117,7 +128,7 @@ impl<I: Read> Read for Helped<'_, '_, '_, I> {
         for _ in 0..u64::MAX {
             let len = self.input.read(buf)?;
             let text = buf.get(..len).unwrap_or(&[]);
-            if !self.is_attended || !self.take(text)? {
+            if len == 0 || !self.is_attended || !self.take(text)? {
                 return Ok(len);
             }
         }

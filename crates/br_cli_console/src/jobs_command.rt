@@ -11,7 +11,7 @@ use br_jobs::{Filter, Zones, list_jobs, marked_lines};
 use br_keeper::{Catalogue, CatalogueFault};
 use br_plan::{BadMoment, read_moment};
 use std::fs;
-use std::io::{self, Write};
+use std::io::{self, IsTerminal, Write};
 
 /// Returns the choice of jobs in these options.
 fn filter_of<'a>(given: &JobsOptions<'a>) -> Result<Filter<'a>, BadMoment> {
@@ -26,7 +26,8 @@ fn filter_of<'a>(given: &JobsOptions<'a>) -> Result<Filter<'a>, BadMoment> {
     })
 }
 
-/// Loads the jobs in the file of a catalogue, if the file is there.
+/// Loads the jobs in the file of a catalogue, if the file is there and has bytes: a catalogue has
+/// tables, and a file without bytes has none.
 pub(crate) fn jobs_in<C: Catalogue>(
     rt: &HostRuntime,
     catalogue: &C,
@@ -38,11 +39,31 @@ pub(crate) fn jobs_in<C: Catalogue>(
     if fs::metadata(rt, db).is_err() {
         return Err(CatalogueFault::Unreadable);
     }
-    catalogue.load(db)
+    let history = catalogue.load(db)?;
+    // While a catalogue is made, its file may be empty: the load waits for that.
+    let len = fs::metadata(rt, db).map_or(0, |found| found.len());
+    if len == 0 {
+        Err(CatalogueFault::Unreadable)
+    } else {
+        Ok(history)
+    }
 }
 
-/// Prints lines to standard output.
-fn print_lines(rt: &HostRuntime, text: &[u8]) -> io::Result<()> {
+/// The heads of the columns of a list, with moments in UTC alone and in the zone of the system, too.
+const HEADS: &str = "MARK JOBID LEVEL STATUS DATE TIME CLIENT FILESET FILES BYTES VOLUMES";
+
+const LOCAL_HEADS: &str =
+    "MARK JOBID LEVEL STATUS DATE TIME LOCAL-DATE LOCAL-TIME CLIENT FILESET FILES BYTES VOLUMES";
+
+/// Prints lines to standard output. If that and standard error are terminals and there is a line,
+/// prints the heads of their columns to standard error before.
+fn print_lines(rt: &HostRuntime, zones: &Zones<'_>, text: &[u8]) -> io::Result<()> {
+    if is_shown(rt) && rt.stdout().is_terminal() && !text.is_empty() {
+        match zones {
+            Zones::Utc => eprintln!(rt; "{HEADS}")?,
+            Zones::UtcAndLocal(_) => eprintln!(rt; "{LOCAL_HEADS}")?,
+        }
+    }
     let mut writer = io::writer(rt);
     writer.write_all(text)?;
     writer.flush()
@@ -89,13 +110,13 @@ fn print_jobs(
 {
     match marked_lines(rt.alloc(), history, filter, zones) {
         Ok(text) => {
-            print_lines(rt, &text.lines)?;
+            print_lines(rt, zones, &text.lines)?;
             tell_if_none(rt, &text.lines, filter)?;
             print_warnings(rt, &text.warnings)
         }
         Err(fault) => {
             let text = list_jobs(rt.alloc(), history.jobs(), filter, zones, &[])?;
-            print_lines(rt, &text)?;
+            print_lines(rt, zones, &text)?;
             refuse_start(rt, fault.number())
         }
     }

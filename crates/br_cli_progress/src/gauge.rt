@@ -1,10 +1,12 @@
 //! The counters of a running restore, and when and where they are shown.
+ghost use Rattle.std.specs.Prelude.{◌≡◌, ◌⊎◌, IfOk};
 
 use crate::expecting::len_of_volumes;
 use crate::log::Log;
 use crate::progress_counts::ProgressCounts;
 use crate::progress_line::{Standing, seconds_left};
 use br_bsr::Bootstrap;
+use br_cli_common::{BAD_STREAM, Target};
 use std::alloc::Global;
 use std::io::{self, IsTerminal, Write};
 use std::sync::atomic::{AtomicBool, AtomicU64, Ordering};
@@ -18,19 +20,23 @@ const INTERVAL: u64 = 500;
 /// the restore share it.
 #[derive(Drop)]
 pub struct Gauge<'r> {
-    rt: &'r HostRuntime,
+    pub(crate) rt: &'r HostRuntime,
     /// True if standard error is a terminal.
     is_terminal: bool,
     /// The log, if there is one.
     pub(crate) log: Option<Log>,
     /// The path of the folder with the volumes.
     volumes: &'r str,
+    /// True if the files go into a folder, which skips some of them.
+    pub(crate) is_folder: bool,
     /// The moment at which the gauge was made, if it shows the progress.
     begun: Option<Instant>,
     to_read: AtomicU64,
     read: AtomicU64,
     files: AtomicU64,
     put: AtomicU64,
+    /// The number of files that the folder skipped.
+    skipped: AtomicU64,
     /// The number of files of the manifest that are left out as older copies.
     older: AtomicU64,
     /// The number of outcomes that are no files.
@@ -48,9 +54,14 @@ pub struct Gauge<'r> {
 }
 
 impl<'r> Gauge<'r> {
-    /// Creates a gauge without a log, for a restore from volumes in the folder with this path. It
-    /// may show the progress or not.
-    pub fn new(rt: &'r HostRuntime, volumes: &'r str, is_shown: bool) -> Gauge<'r> {
+    /// Creates a gauge without a log, for a restore from volumes in the folder with this path to a
+    /// target. It may show the progress or not.
+    pub fn new(
+        rt: &'r HostRuntime,
+        volumes: &'r str,
+        target: Target<'_>,
+        is_shown: bool,
+    ) -> Gauge<'r> {
         let begun = if is_shown {
             Instant::now(rt).ok()
         } else {
@@ -61,11 +72,13 @@ impl<'r> Gauge<'r> {
             is_terminal: rt.stderr().is_terminal(),
             log: None,
             volumes,
+            is_folder: matches!(target, Target::Folder(_)),
             begun,
             to_read: AtomicU64::new(0),
             read: AtomicU64::new(0),
             files: AtomicU64::new(0),
             put: AtomicU64::new(0),
+            skipped: AtomicU64::new(0),
             older: AtomicU64::new(0),
             lost: AtomicU64::new(0),
             is_putting: AtomicBool::new(false),
@@ -132,6 +145,7 @@ impl<'r> Gauge<'r> {
             put: self.put.load(Ordering::SeqCst),
             files: self.files.load(Ordering::SeqCst),
             older: self.older.load(Ordering::SeqCst),
+            skipped: self.skipped.load(Ordering::SeqCst),
             lost: self.lost.load(Ordering::SeqCst),
         })
     }
@@ -148,33 +162,51 @@ impl<'r> Gauge<'r> {
             .store(files.saturating_sub(others), Ordering::SeqCst);
     }
 
-    /// Prints a text to standard error if that is a terminal.
+    /// Returns true if there is a log on standard error.
+    pub(crate) fn logs_to_error(&self) -> bool {
+        match &self.log {
+            Some(log) => log.file.is_none(),
+            None => false,
+        }
+    }
+
+    /// Prints a text to standard error if that is a terminal, and not the log, which gets the text
+    /// too.
     pub(crate) fn show(&self, text: &[u8]) -> io::Result<()> {
-        if !self.is_terminal {
+        if !self.is_terminal || self.logs_to_error() {
             return Ok(());
         }
         self.clear();
         self.rt.stderr().write_all(text)
     }
 
-    /// Ends the log: makes it durable, and prints a line to standard error that it could not be
-    /// written, if it could not.
-    pub(crate) fn end_log(&self) -> io::Result<()> {
-        if let Some(log) = &self.log {
-            log.settle();
+    /// Ends the log: makes it durable. If it could not be written, prints a line to standard error
+    /// that says so. Returns the exit status of a command that ends with this one otherwise.
+    ///
+    /// # Errors
+    ///
+    /// If standard error failed.
+    pub fn end_log(&self, status: u8) -> io::Result<u8>
+        ensures { IfOk result (λ ended. (ended ≡ status) ⊎ (ended ≡ 3)) }
+    {
+        let Some(log) = &self.log else {
+            return Ok(status);
+        };
+        log.settle();
+        if log.is_torn() {
+            eprintln!(self.rt; "brestore: the log could not be written, so it is not whole")?;
+            return Ok(BAD_STREAM);
         }
-        match &self.log {
-            Some(log) if log.is_torn() => {
-                eprintln!(self.rt; "brestore: the log could not be written, so it is not whole")
-            }
-            _ => Ok(()),
-        }
+        Ok(status)
     }
 
-    /// Notes that this number of further files was put.
-    pub fn note_put(&self, count: u64) {
+    /// Notes that the sink took this number of further files, of which some were skipped and the
+    /// others put.
+    pub fn note_taken(&self, count: u64, skipped: u64) {
         self.is_putting.store(true, Ordering::SeqCst);
-        self.put.fetch_add(count, Ordering::SeqCst);
+        self.put
+            .fetch_add(count.saturating_sub(skipped), Ordering::SeqCst);
+        self.skipped.fetch_add(skipped, Ordering::SeqCst);
         self.tell();
     }
 
@@ -200,7 +232,8 @@ impl<'r> Gauge<'r> {
         let put = self.put.load(Ordering::SeqCst);
         let (files, left) = if self.is_putting.load(Ordering::SeqCst) {
             let files = self.files.load(Ordering::SeqCst);
-            (files, seconds_left(elapsed, put, files))
+            let taken = put.saturating_add(self.skipped.load(Ordering::SeqCst));
+            (files, seconds_left(elapsed, taken, files))
         } else {
             (0, seconds_left(elapsed, read, to_read))
         };

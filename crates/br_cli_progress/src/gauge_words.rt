@@ -2,7 +2,9 @@
 
 use crate::gauge::Gauge;
 use crate::passed_faults::Faults;
-use crate::progress_counts::{push_count, push_failed, push_put, put_lines};
+use crate::progress_counts::{
+    count_skipped, is_skipped, push_count, push_path, taken_lines, taken_word,
+};
 use br_cli_common::{push_with_words, push_words};
 use br_join::{Item, Outcome};
 use br_types::{FileKey, push_number};
@@ -16,17 +18,10 @@ fn ended(alloc: Global, line: &[u8]) -> Result<Vec<u8>, AllocError> {
     Ok(text)
 }
 
-/// Returns the line of a file that was put.
-fn put_line(alloc: Global, item: &Item) -> Result<Vec<u8>, AllocError> {
+/// Returns the line of a file, which begins with a word.
+fn item_line(alloc: Global, word: &[u8], item: &Item) -> Result<Vec<u8>, AllocError> {
     let mut text = Vec::new(alloc);
-    push_put(&mut text, &item.path)?;
-    Ok(text)
-}
-
-/// Returns the line of a file at which the sink failed.
-fn failed_line(alloc: Global, item: &Item) -> Result<Vec<u8>, AllocError> {
-    let mut text = Vec::new(alloc);
-    push_failed(&mut text, &item.path)?;
+    push_path(&mut text, word, &item.path)?;
     Ok(text)
 }
 
@@ -43,8 +38,11 @@ impl<'r> Gauge<'r> {
     /// Appends lines to the log, if there is one. If memory ran out for the lines, the log is torn.
     fn log_lines(&self, lines: Result<Vec<u8>, AllocError>) {
         if let Some(log) = &self.log {
+            if self.logs_to_error() {
+                self.clear();
+            }
             match lines {
-                Ok(lines) => log.append(&lines),
+                Ok(lines) => log.append(self.rt, &lines),
                 Err(_) => log.tear(),
             }
         }
@@ -57,26 +55,33 @@ impl<'r> Gauge<'r> {
         }
     }
 
-    /// Notes that the first `count` files among the outcomes were put.
-    pub(crate) fn note_files_put(&self, outcomes: &[(FileKey, Outcome)], count: u64) {
+    /// Notes that the sink took the first `count` files among the outcomes: they were put, or a
+    /// folder skips them.
+    pub(crate) fn note_files_taken(&self, outcomes: &[(FileKey, Outcome)], count: u64) {
         if self.log.is_some() {
-            self.log_lines(put_lines(self.alloc(), outcomes, count));
+            self.log_lines(taken_lines(self.alloc(), self.is_folder, outcomes, count));
         }
-        self.note_put(count);
+        let skipped = if self.is_folder {
+            count_skipped(outcomes, count)
+        } else {
+            0
+        };
+        self.note_taken(count, skipped);
     }
 
-    /// Notes that a file was put.
-    pub(crate) fn note_file_put(&self, item: &Item) {
+    /// Notes that the sink took a file: it was put, or a folder skips it.
+    pub(crate) fn note_file_taken(&self, item: &Item) {
         if self.log.is_some() {
-            self.log_lines(put_line(self.alloc(), item));
+            let word = taken_word(self.is_folder, item.kind);
+            self.log_lines(item_line(self.alloc(), word, item));
         }
-        self.note_put(1);
+        self.note_taken(1, u64::from(self.is_folder && is_skipped(item.kind)));
     }
 
     /// Appends the line of a file at which the sink failed to the log.
     pub(crate) fn log_failed(&self, item: &Item) {
         if self.log.is_some() {
-            self.log_lines(failed_line(self.alloc(), item));
+            self.log_lines(item_line(self.alloc(), b"failed ", item));
         }
     }
 
@@ -113,14 +118,17 @@ impl<'r> Gauge<'r> {
 
     /// Returns the line with the number of files that were put, if some were to be put and a
     /// terminal is to show it. A terminal without progress shows it only if a file was neither put
-    /// nor left out as an older copy.
+    /// nor skipped, nor left out as an older copy.
     fn count_text(&self) -> Result<(Vec<u8>, bool), AllocError> {
         let mut text = Vec::new(self.alloc());
         let Some(count) = self.count() else {
             return Ok((text, false));
         };
         push_count(&mut text, count)?;
-        let done = count.put.saturating_add(count.older);
+        let done = count
+            .put
+            .saturating_add(count.older)
+            .saturating_add(count.skipped);
         Ok((text, self.is_shown() || done < count.files))
     }
 
@@ -146,8 +154,7 @@ impl<'r> Gauge<'r> {
         Ok(())
     }
 
-    /// Reports to a terminal and the log the number of files that were put. If the log could not be
-    /// written, a line on standard error says so.
+    /// Reports to a terminal and the log the number of files that were put.
     ///
     /// # Errors
     ///
@@ -158,6 +165,6 @@ impl<'r> Gauge<'r> {
             self.show(&count)?;
         }
         self.log_lines(Ok(count));
-        self.end_log()
+        Ok(())
     }
 }

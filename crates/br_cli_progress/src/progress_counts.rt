@@ -1,6 +1,6 @@
 //! The report of a restore besides the manifest, as text.
 ghost use Rattle.std.specs.Prelude.{◌≡◌, ◌++◌, OnOk};
-ghost use Rattle.br_cli_progress.specs.Telling.{count_line, failed_line, lost_front, noted_text, older_front, put_line, put_of};
+ghost use Rattle.br_cli_progress.specs.Telling.{count_line, is_skipped, lost_front, noted_text, older_front, path_line, put_of, skipped_front, taken_word};
 
 use br_join::Outcome;
 use br_types::{FileKey, Path, push_escaped, push_number};
@@ -15,26 +15,37 @@ pub(crate) struct ProgressCounts {
     pub(crate) files: u64,
     /// Those of the manifest that are left out as older copies.
     pub(crate) older: u64,
+    /// Those that a folder skips, since it takes no files of their types.
+    pub(crate) skipped: u64,
     /// The outcomes that are no files.
     pub(crate) lost: u64,
 }
 
-/// Appends the line of a file that was put.
-pub(crate) fn push_put(text: &mut Vec<u8>, path: &Path) -> Result<(), AllocError>
-    ensures { OnOk result (text.new.items ≡ text.old.items ++ put_line path.now) }
+/// Appends the line of a file, which begins with a word.
+pub(crate) fn push_path(text: &mut Vec<u8>, word: &[u8], path: &Path) -> Result<(), AllocError>
+    ensures { OnOk result (text.new.items ≡ text.old.items ++ path_line word.now path.now) }
 {
-    text.extend_from_slice(b"put ")?;
+    text.extend_from_slice(word)?;
     push_escaped(text, path.bytes())?;
     text.extend_from_slice(b"\n")
 }
 
-/// Appends the line of a file at which the sink failed.
-pub(crate) fn push_failed(text: &mut Vec<u8>, path: &Path) -> Result<(), AllocError>
-    ensures { OnOk result (text.new.items ≡ text.old.items ++ failed_line path.now) }
+/// Returns true if a folder skips files of this type: it takes those that have bytes, and folders.
+pub(crate) fn is_skipped(kind: u32) -> bool
+    ensures { result ≡ is_skipped kind }
 {
-    text.extend_from_slice(b"failed ")?;
-    push_escaped(text, path.bytes())?;
-    text.extend_from_slice(b"\n")
+    !(kind == 2 || kind == 3 || kind == 5)
+}
+
+/// Returns the word before the path of a file of this type that a folder or a stream was given.
+pub(crate) fn taken_word(is_folder: bool, kind: u32) -> &'static [u8]
+    ensures { result.now ≡ taken_word is_folder kind }
+{
+    if is_folder && is_skipped(kind) {
+        b"skipped "
+    } else {
+        b"put "
+    }
 }
 
 /// Appends a text and a number; nothing if the number is 0.
@@ -54,6 +65,14 @@ fn push_older(text: &mut Vec<u8>, older: u64) -> Result<(), AllocError>
     ensures { OnOk result (text.new.items ≡ text.old.items ++ noted_text older_front older) }
 {
     push_noted(text, b", older copies left out: ", older)
+}
+
+/// Appends the number of files that a folder skips, if there are any.
+#[tactic(auto, unfolding(crate::specs::Telling::skipped_front))]
+fn push_skipped(text: &mut Vec<u8>, skipped: u64) -> Result<(), AllocError>
+    ensures { OnOk result (text.new.items ≡ text.old.items ++ noted_text skipped_front skipped) }
+{
+    push_noted(text, b", links and special files skipped: ", skipped)
 }
 
 /// Appends the number of files that can't be restored, if there are any.
@@ -80,14 +99,17 @@ pub(crate) fn push_count(text: &mut Vec<u8>, count: ProgressCounts) -> Result<()
 {
     push_put_of(text, count.put, count.files)?;
     push_older(text, count.older)?;
+    push_skipped(text, count.skipped)?;
     push_lost(text, count.lost)?;
     text.push(b'\n')?;
     Ok(())
 }
 
-/// Returns the lines of the first `count` files among the outcomes.
-pub(crate) fn put_lines(
+/// Returns the lines of the first `count` files among the outcomes, which a folder or a stream was
+/// given.
+pub(crate) fn taken_lines(
     alloc: Global,
+    is_folder: bool,
     outcomes: &[(FileKey, Outcome)],
     count: u64,
 ) -> Result<Vec<u8>, AllocError> {
@@ -98,9 +120,25 @@ pub(crate) fn put_lines(
             if left == 0 {
                 return Ok(text);
             }
-            push_put(&mut text, &item.path)?;
+            push_path(&mut text, taken_word(is_folder, item.kind), &item.path)?;
             left -= 1;
         }
     }
     Ok(text)
+}
+
+/// Returns how many of the first `count` files among the outcomes a folder skips.
+pub(crate) fn count_skipped(outcomes: &[(FileKey, Outcome)], count: u64) -> u64 {
+    let mut skipped: u64 = 0;
+    let mut left = count;
+    for (_, outcome) in outcomes {
+        if let Outcome::File(item) = outcome {
+            if left == 0 {
+                return skipped;
+            }
+            skipped = skipped.saturating_add(u64::from(is_skipped(item.kind)));
+            left -= 1;
+        }
+    }
+    skipped
 }

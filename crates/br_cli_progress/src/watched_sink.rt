@@ -87,11 +87,11 @@ fn put_runs<S: Sink, R: Threads + Sync>(
         let (run, _) = rest.split_at(rest.len().min(RUN_LEN));
         if let Err(stop) = sink.put_all(threads, run) {
             let put = stop.done();
-            gauge.note_files_put(run, put);
+            gauge.note_files_taken(run, put);
             return Err(SinkStop::new(stop.cause(), done + put));
         }
         let files = totals(run).files;
-        gauge.note_files_put(run, files);
+        gauge.note_files_taken(run, files);
         done += files;
         place += run.len();
     }
@@ -107,7 +107,7 @@ impl<'g, 'r, S: Sink> Sink for WatchedSink<'g, 'r, S> {
         self.gauge.begin_putting();
         let put = self.inner.put(item);
         match &put {
-            Ok(()) => self.gauge.note_file_put(item),
+            Ok(()) => self.gauge.note_file_taken(item),
             Err(SinkFault::Fault) => note_failed(self.gauge, &mut self.failed, item),
             Err(SinkFault::Memory) => {}
         }
@@ -143,7 +143,7 @@ impl<'g, 'r, S: Sink> Sink for WatchedSink<'g, 'r, S> {
         self.gauge.begin_putting();
         let put = self.inner.put_parts(alloc, item, parts);
         match &put {
-            Ok(_) => self.gauge.note_file_put(item),
+            Ok(_) => self.gauge.note_file_taken(item),
             Err(PartsFault::Fault) => note_failed(self.gauge, &mut self.failed, item),
             Err(PartsFault::Memory | PartsFault::NoDriveLeft | PartsFault::Changed) => {}
         }
@@ -161,11 +161,11 @@ impl<'g, 'r, S: Sink> Sink for WatchedSink<'g, 'r, S> {
         let put = self.inner.put_two(alloc, one, other, parts);
         match &put {
             Some(TwoPut::Both { .. }) => {
-                self.gauge.note_file_put(one);
-                self.gauge.note_file_put(other);
+                self.gauge.note_file_taken(one);
+                self.gauge.note_file_taken(other);
             }
             Some(TwoPut::One { why, .. }) => {
-                self.gauge.note_file_put(one);
+                self.gauge.note_file_taken(one);
                 if *why == PartsFault::Fault {
                     note_failed(self.gauge, &mut self.failed, other);
                 }

@@ -1,9 +1,6 @@
 use br_cli_common::tell_refusals;
 use std::io;
 
-/// The exit status for a fault of the program's own files and streams.
-pub const BAD_STREAM: u8 = 3;
-
 /// Exit status and refusal line of a run.
 #[derive(Drop)]
 pub struct Ending {

@@ -24,13 +24,13 @@ mod watched_restore;
 
 pub use absent_count::count_absent;
 pub use advice_lines::{push_absent, push_older, push_origin};
-pub use ending::{BAD_STREAM, Ending};
+pub use ending::Ending;
 pub use host_restore::{restore_over, with_watched_drives, with_watched_sink};
 pub use origin::{Origin, origins};
 pub use settling::{Channel, Settle};
 pub use target_folder::{LeavingSink, ResumingSink, folder_of, leaving_over, resuming_over};
 pub use target_tar::{
-    PutExtent, Streamed, TarEnd, TarFault, add_tar_end, end_stream, tar_into, tar_onto,
+    PutExtent, Streamed, TarEnd, TarFault, add_tar_end, end_stream, tar_into, tar_onto, tar_output,
 };
 pub use told_outcomes::{ToldOutcomes, advise, say_volumes, tell_outcomes};
 pub use told_target::{

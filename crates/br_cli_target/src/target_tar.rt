@@ -18,20 +18,21 @@ use br_sink_tar::TarSink;
 use br_types::push_number;
 use std::alloc::{AllocError, Global};
 use std::fs::File;
-use std::io::{BufWriter, Write};
+use std::io::{self, BufWriter, IsTerminal, Printer, Write};
 use thiserror::Error;
 
-/// Why there is no file to write a tar stream into.
+/// Why there is no file or output to write a tar stream into.
 #[derive(Clone, Copy, Debug, Error)]
 pub enum TarFault {
     #[error("out of memory")]
     Memory,
-    #[error("the file is there, or can't be made")]
+    #[error("the file is there or can't be made, or the output is a terminal")]
     NoFile,
 }
 
 impl TarFault {
-    /// Returns the number of the refusal: 1 out of memory, 81 a file that is there or can't be made.
+    /// Returns the number of the refusal: 1 out of memory, 81 a file that is there or can't be made,
+    /// or an output that is a terminal.
     pub fn number(self) -> u32
         ensures { result ≡ tar_fault_number self }
     {
@@ -73,6 +74,16 @@ pub fn tar_into(rt: &HostRuntime, path: &str) -> Result<TarSink<BufWriter<File>>
     let mut disk = HostDisk::new(rt.alloc(), rt);
     let file = new_file(&mut disk, path)?;
     tar_onto(rt.alloc(), file)
+}
+
+/// Returns a sink that writes a tar stream to standard output, unless that is a terminal.
+pub fn tar_output(
+    rt: &HostRuntime,
+) -> Result<TarSink<BufWriter<Printer<'_, HostRuntime>>>, TarFault> {
+    if rt.stdout().is_terminal() {
+        return Err(TarFault::NoFile);
+    }
+    tar_onto(rt.alloc(), io::writer(rt))
 }
 
 /// The number of restored files that were put into the sink.

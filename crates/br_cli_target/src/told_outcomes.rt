@@ -44,6 +44,14 @@ impl<'t> ToldOutcomes<'t> {
         }
     }
 
+    /// Returns true if there was a bootstrap, and it has no group.
+    pub fn asks_nothing(&self) -> bool {
+        match self.bootstrap {
+            Some(bootstrap) => bootstrap.groups().is_empty(),
+            None => false,
+        }
+    }
+
     /// Returns what a watched writer noted of a console session.
     pub fn of_session<W>(writer: &'t WatchedWriter<'_, '_, W>) -> ToldOutcomes<'t> {
         ToldOutcomes::by(writer, writer.plan())

@@ -19,6 +19,9 @@ use std::io::{self, ErrorKind};
 /// The number of files whose reasons are reported.
 const FILES: usize = 8;
 
+/// The name of the stream that `--tar -` stands for.
+const OUTPUT: &str = "standard output";
+
 /// Appends a line to the log with the name of the program's stream or file that failed, if it has
 /// one.
 pub fn log_fault<F: fmt::Display>(
@@ -75,11 +78,11 @@ fn say_reason(rt: &HostRuntime, gauge: &Gauge<'_>, reason: &Reason) -> io::Resul
     gauge.say(format!(in rt.alloc(); "  {reason}")?.as_str())
 }
 
-/// Reports that a stream or its file could not be written.
-fn say_stream(rt: &HostRuntime, gauge: &Gauge<'_>, path: &str) -> io::Result<()> {
+/// Reports what is wrong with a stream or its file.
+fn say_stream(rt: &HostRuntime, gauge: &Gauge<'_>, path: &str, matter: Matter) -> io::Result<()> {
     let reason = Reason {
         path: String::from_str(rt.alloc(), path)?,
-        matter: Matter::Unwritten,
+        matter,
     };
     say_reason(rt, gauge, &reason)
 }
@@ -115,8 +118,8 @@ fn say_failure(
         Target::Folder(folder) => {
             say_reason(rt, gauge, &reason_of_file(rt, folder, path.bytes())?)
         }
-        Target::TarFile(file) => say_stream(rt, gauge, file),
-        Target::TarOutput => say_stream(rt, gauge, "standard output"),
+        Target::TarFile(file) => say_stream(rt, gauge, file, Matter::Unwritten),
+        Target::TarOutput => say_stream(rt, gauge, OUTPUT, Matter::Unwritten),
     }
 }
 
@@ -187,7 +190,8 @@ pub fn say_place(rt: &HostRuntime, gauge: &Gauge<'_>, target: Target<'_>) -> io:
         return Ok(());
     }
     match target {
-        Target::Nowhere | Target::TarOutput => Ok(()),
+        Target::Nowhere => Ok(()),
+        Target::TarOutput => say_stream(rt, gauge, OUTPUT, Matter::Terminal),
         Target::Folder(folder) => say_reason(rt, gauge, &reason_of_folder(rt, folder)?),
         Target::TarFile(file) => say_reason(rt, gauge, &reason_of_new_file(rt, file)?),
     }

@@ -1,18 +1,18 @@
 //! Restores that show their progress at a terminal.
 ghost use Rattle.std.specs.Prelude.{◌≡◌, is_some, length, IfOk};
 
-use crate::ending::BAD_STREAM;
-use br_cli_common::{Progress, is_shown};
+use br_cli_common::{BAD_STREAM, Progress, Target, is_shown};
 use br_cli_progress::{Gauge, Log, WatchedDrive, WatchedSink};
 use std::alloc::{AllocError, Global};
 use std::io::{self, ErrorKind};
 
-/// Returns the gauge of a restore from volumes in the folder with this path. It shows the progress
-/// if that is asked for and standard error is a terminal, and appends to the file of a log if one
-/// is given.
+/// Returns the gauge of a restore from volumes in the folder with this path to a target. It shows
+/// the progress if that is asked for and standard error is a terminal, and appends to the file of a
+/// log if one is given.
 pub fn gauge_of<'r>(
     rt: &'r HostRuntime,
     volumes: &'r str,
+    target: Target<'_>,
     progress: Progress,
     log: Option<&str>,
 ) -> io::Result<Gauge<'r>> {
@@ -23,6 +23,7 @@ pub fn gauge_of<'r>(
     let gauge = Gauge::new(
         rt,
         volumes,
+        target,
         matches!(progress, Progress::Shown) && is_shown(rt),
     );
     Ok(gauge.with_log(log))

@@ -1,6 +1,7 @@
 mod StandLaws
 mod ReadLaws
 mod KnownLaws
+mod SpanLaws
 mod BodyPartLaws
 mod WrittenLaws
 pub mod OverLaws

@@ -2,6 +2,7 @@ pub mod KeptData
 pub mod StandingHits
 pub mod Rereading
 pub mod KnownBlocks
+pub mod DataSpans
 pub mod BodyParts
 pub mod BodyWritten
 pub mod Content

@@ -18,6 +18,7 @@ mod body_reading;
 mod body_writing;
 mod data;
 mod data_place;
+mod data_spans;
 mod fetch;
 mod file_bytes;
 mod found_bytes;

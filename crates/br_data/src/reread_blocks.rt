@@ -1,40 +1,46 @@
-ghost use Rattle.std.specs.Prelude.{◌≡◌, ◌≤◌, ◌<◌, true, Err, None, OnOk, IsOk};
+ghost use Rattle.std.specs.Prelude.{◌≡◌, ◌≤◌, ◌<◌, true, Err, None, OnOk, IsOk, option_map};
 ghost use Rattle.br_model.specs.Answer.{AnswersAlways};
 ghost use Rattle.br_volume.specs.Drive.{OnlyGrows};
-ghost use Rattle.br_data.specs.KnownBlocks.{IsKnown, IsReady, OfFragment, bytes_of, fragment_of, knows};
+ghost use Rattle.br_data.specs.KnownBlocks.{IsKnown, IsReady, OfFragment, bytes_of, knows};
+ghost use Rattle.br_data.specs.DataSpans.{data_of};
 ghost use Rattle.br_data.specs.Rereading.{IsGone};
 ghost use Rattle.br_data.specs.declared.reread_fault.AgainFault.TheVariants.{Changed, Failed};
 
 use crate::data::Data;
 use crate::data_place::FragmentPlace;
+use crate::data_spans::{DataSpan, data_at, spans_of};
 use crate::reread_fault::AgainFault;
-use crate::reread_fragment::{fragment_in, read_again};
-use br_block::Fragment;
+use crate::reread_fragment::read_again;
 use br_types::VolName;
 use br_volume::Drive;
 use std::alloc::Global;
 use std::marker::Model;
 
-/// The block that was read last, so that fragments of one block cost one read. It is of one drive,
+/// The block that was read last, so that fragments of one block cost one read, and one walk over
+/// the block. It is of one drive,
 /// and of no other.
 #[derive(Drop)]
 pub struct Again {
     /// The bytes of the block; anything if none is known.
     bytes: Vec<u8>,
+    /// Where the data of its fragments are.
+    spans: Vec<DataSpan>,
     /// The volume and the address of the block.
     known: Option<(VolName, u64)>,
 }
 
 impl Model for Again {
     ghost use Rattle.std.specs.Prelude.{◌≡◌, IfSome, Ok, Option, option_map};
-    ghost use Rattle.br_model.specs.Block.{read_block};
+    ghost use Rattle.br_model.specs.Block.{fragments_of, read_block};
+    ghost use Rattle.br_data.specs.DataSpans.{AreDataIn};
     ghost use Rattle.br_data.specs.KnownBlocks as model;
 
     ghost Value = { Option model.KnownBlock };
 
     ghost view = { λ a. option_map (λ k. record { volume = k.0; address = k.1; bytes = a.bytes.items }) a.known };
 
-    ghost invariant = { λ a. IfSome a.known (λ _. read_block a.bytes.items ≡ Ok a.bytes.items) };
+    ghost invariant = { λ a. IfSome a.known (λ _. (read_block a.bytes.items ≡ Ok a.bytes.items)
+        × AreDataIn a.bytes.items a.spans.items (fragments_of a.bytes.items)) };
 }
 
 impl Again {
@@ -44,6 +50,7 @@ impl Again {
     {
         Again {
             bytes: Vec::new(alloc),
+            spans: Vec::new(alloc),
             known: None,
         }
     }
@@ -81,8 +88,10 @@ impl Again {
             return Ok(());
         }
         self.known = None;
-        let name = place.vol.copy(*self.bytes.allocator())?;
+        let alloc = *self.bytes.allocator();
+        let name = place.vol.copy(alloc)?;
         read_again(drive, place.vol, place.addr, &mut self.bytes)?;
+        self.spans = spans_of(alloc, &self.bytes)?;
         self.known = Some((name, place.addr));
         Ok(())
     }
@@ -119,17 +128,14 @@ impl Again {
         self.fetch(drive, place)
     }
 
-    /// Returns the fragment of the block that was read last with this number of fragments before it.
-    ///
-    /// # Errors
-    ///
-    /// `Changed` if there is none.
-    pub fn fragment(&self, ordinal: u32) -> Result<Fragment<'_>, AgainFault>
-        ensures { AnswersAlways (λ f. f) (λ e. e) result (fragment_of self.now ordinal) }
+    /// Returns the data of the fragment of the block that was read last with this number of
+    /// fragments before it, if there is one.
+    fn data(&self, ordinal: u32) -> Option<&[u8]>
+        ensures { option_map (λ d. d.now) result ≡ data_of self.now ordinal }
     {
         match &self.known {
-            Some(_) => fragment_in(&self.bytes, ordinal),
-            None => Err(AgainFault::Changed),
+            Some(_) => data_at(&self.bytes, &self.spans, ordinal),
+            None => None,
         }
     }
 
@@ -139,17 +145,19 @@ impl Again {
     /// # Errors
     ///
     /// `Changed` if no bytes are in memory and there is no such fragment, or one of another length.
-    #[tactic(auto, unfolding(crate::specs::KnownBlocks::bytes_of))]
+    #[tactic(auto, unfolding(crate::specs::KnownBlocks::bytes_of), using(crate::proofs::SpanLaws::read_is, crate::proofs::SpanLaws::none_read))]
     pub fn bytes_of<'a>(&'a self, ordinal: u32, found: &'a Data) -> Result<&'a [u8], AgainFault>
         ensures { AnswersAlways (λ bytes. bytes.now) (λ e. e) result (bytes_of self.now ordinal found.now) }
     {
         if let Some(bytes) = found.held() {
             return Ok(bytes);
         }
-        let fragment = self.fragment(ordinal)?;
-        if fragment.bytes.len() != found.len() {
+        let Some(data) = self.data(ordinal) else {
+            return Err(AgainFault::Changed);
+        };
+        if data.len() != found.len() {
             return Err(AgainFault::Changed);
         }
-        Ok(fragment.bytes)
+        Ok(data)
     }
 }

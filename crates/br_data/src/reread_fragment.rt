@@ -1,13 +1,12 @@
-ghost use Rattle.std.specs.Prelude.{◌≡◌, ◌≤◌, ◌<◌, Ok, Err, IfOk, IfErr, OnOk, OnErr, slice_get};
-ghost use Rattle.br_model.specs.Answer.{AnswersAlways, some_or};
-ghost use Rattle.br_model.specs.Block.{fragments_of, read_block};
+ghost use Rattle.std.specs.Prelude.{◌≡◌, ◌≤◌, ◌<◌, Ok, Err, IfOk, IfErr, OnOk, OnErr};
+ghost use Rattle.br_model.specs.Block.{read_block};
 ghost use Rattle.br_volume.specs.Drive.{OnlyGrows};
 ghost use Rattle.br_data.specs.Rereading.{HasFirst, HasLength, IsBlock, IsGone, ShowsFirst};
 ghost use Rattle.br_data.specs.StandingHits.{ShowsBlock};
 ghost use Rattle.br_data.specs.declared.reread_fault.AgainFault.TheVariants.{Changed, Failed};
 
 use crate::reread_fault::AgainFault;
-use br_block::{Block, BlockHead, Fragment, Fragments};
+use br_block::{Block, BlockHead};
 use br_types::VolName;
 use br_volume::{Drive, DriveFault, Got};
 
@@ -97,30 +96,4 @@ pub(crate) fn read_again<D: Drive>(
     let size = block_len(drive, vol, addr, buf)?;
     read_bytes(drive, vol, addr, size, buf)?;
     check_whole(buf)
-}
-
-/// Returns the fragment with this number of fragments before it; none if there are too few.
-fn fragment_at(mut fragments: Fragments<'_>, ordinal: u32) -> Option<Fragment<'_>>
-    ensures { result ≡ slice_get fragments.entry ordinal }
-{
-    fragments.nth(ordinal as usize)
-}
-
-/// Returns the fragment of the block in `bytes` with this number of fragments before it.
-///
-/// # Errors
-///
-/// `Changed` if the bytes are no block, or it has too few fragments.
-pub(crate) fn fragment_in(bytes: &[u8], ordinal: u32) -> Result<Fragment<'_>, AgainFault>
-    ensures same { read_block bytes.now ≡ Ok bytes.now → AnswersAlways (λ f. f) (λ e. e) result
-        (some_or (slice_get (fragments_of bytes.now) ordinal) Changed) }
-    ensures fault { IfErr result (λ e. e ≡ Changed) }
-{
-    match Block::read(bytes) {
-        Err(_) => Err(AgainFault::Changed),
-        Ok(block) => match fragment_at(block.fragments(), ordinal) {
-            Some(fragment) => Ok(fragment),
-            None => Err(AgainFault::Changed),
-        },
-    }
 }

@@ -1,7 +1,7 @@
 -- What stays durable, and what a sync makes durable, on a disk over memory.
-use Rattle.std.proofs.Common.{arith, ◌≡◌, ℕ, ◌≤◌, zero, suc, Bool, true, false, not, ◌&&◌, ◌||◌, cond, Option, Some, None, option_map, ◌+◌, List, [], ◌∷◌, ◌++◌, length, take, drop, refl, ap, sym, subst, ◌∙◌, append_assoc, length-append}
+use Rattle.std.proofs.Common.{arith, ◌≡◌, ℕ, zero, suc, Bool, true, false, not, ◌||◌, cond, Option, Some, None, ◌+◌, List, [], ◌∷◌, ◌++◌, length, take, drop, refl, ap, sym, subst, ◌∙◌, append_assoc, length-append}
 use Rattle.std.specs.Prelude.{bytes_eq, unwrap_or, ◌==◌}
-use Rattle.std.specs.List.{find, list_any}
+use Rattle.std.specs.List.{list_any}
 use Rattle.std.proofs.lemmas.Bool.{and_from}
 use Rattle.std.proofs.lemmas.List.{append-nil, drop_at, take_all, take-append-drop}
 use Rattle.std.proofs.lemmas.Option.{same_Some}
@@ -9,8 +9,7 @@ use Rattle.std.proofs.lemmas.Slice.Eq.{bytes_eq-Decides}
 use Rattle.br_model.specs.Volume.{Volume, volume_bytes, Extends}
 use Rattle.br_model.specs.SessionHolds.{bytes_of_volume}
 use Rattle.br_fs.specs.Tree.{AreLonger, Tree}
-use Rattle.br_fs.specs.Durable.{AreNamed, CrashesLeaveFronts, IsDurable, IsNamed, Lasts, NamesFiles, SyncsFile}
-use Rattle.br_fs.specs.MemMaker.{begins_with_slash}
+use Rattle.br_fs.specs.Durable.{CrashesLeaveFronts, IsNamed, Lasts, NamesFiles, SyncsFile}
 use Rattle.br_fs.specs.Memory.{durable_of, entries_in, is_in_folder, is_named, with_appended, with_synced}
 use Rattle.br_fs.proofs.AppendLaws.{appended_is, shown_at, shown_cons, shown_nil}
 use Rattle.br_fs.proofs.EmptyLaws.{below_true}

@@ -1,5 +1,5 @@
 -- Bytes appended to files that are kept as pairs.
-use Rattle.std.proofs.Common.{◌≡◌, ℕ, zero, suc, ◌+◌, ◌<◌, ◌≤◌, Bool, Some, None, List, [], ◌∷◌, ◌++◌, length, refl, ap, arith}
+use Rattle.std.proofs.Common.{◌≡◌, ℕ, zero, suc, ◌<◌, ◌≤◌, Bool, Some, None, List, [], ◌∷◌, ◌++◌, length, refl, ap, arith}
 use Rattle.std.specs.Prelude.{Vec, bytes_eq, slice_set, slice_index_or, position}
 use Rattle.std.specs.List.{position_or_len}
 use Rattle.br_model.specs.Volume.{Volume}

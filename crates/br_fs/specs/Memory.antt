@@ -61,6 +61,10 @@ is_named synced path = list_any (λ (s : List ℕ × ℕ). bytes_eq s.0 path) sy
 abbrev pub with_synced : List ℕ → ℕ → List (List ℕ × ℕ) → List (List ℕ × ℕ)
 with_synced path n synced = if is_named synced path then (path, n) ∷ synced else synced
 
+-- the entries after the bytes of a file were made durable, if its name is
+abbrev pub synced_after : List ℕ → Held → List (List ℕ × ℕ)
+synced_after path disk = with_synced path (length (bytes_of_volume disk.tree.files path)) disk.synced
+
 -- whether a path is that of a file of the folder itself
 abbrev pub is_in_folder : List ℕ → List ℕ → Bool
 is_in_folder folder path = is_below folder path && not (list_any (λ b. b == 47) (drop (length folder + 1) path))

@@ -37,6 +37,7 @@ impl<F: Files + Drop> Comparer for HostDisk<F>
 where
     F::File: FileExt,
 {
+    /// Makes a file that is alike durable, if this disk syncs.
     fn is_alike(
         &mut self,
         alloc: Global,
@@ -44,7 +45,11 @@ where
         count: u64,
         digest: &[u8; 16],
     ) -> Result<bool, DiskFault> {
-        has_alike(alloc, self, path, count, digest)
+        let is_alike = has_alike(alloc, self, path, count, digest)?;
+        if is_alike {
+            self.settle_found(path)?;
+        }
+        Ok(is_alike)
     }
 }
 

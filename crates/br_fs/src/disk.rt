@@ -29,6 +29,10 @@ pub trait Disk {
     /// The number of interrupts to come, if no call fails by itself. None if any may.
     ghost steady: { Self → Option ℕ };
 
+    /// The number of syncs that have failed. No disk defines it, so it is known to stay the same by
+    /// the clauses `clean` alone.
+    ghost failed_syncs: { Self → ℕ } = { λ _. 0 };
+
     /// Returns what is at the path. A link is followed.
     ///
     /// # Errors
@@ -41,6 +45,7 @@ pub trait Disk {
         ensures reads { result ≡ Err Exists → steady self.old ≡ None }
         ensures same { told self.new ≡ told self.old }
         ensures settled { durable self.new ≡ durable self.old }
+        ensures clean { failed_syncs self.new ≡ failed_syncs self.old }
         ensures steady { IsSteady (steady self.old) (steady self.new) result };
 
     /// Opens the file at the path for reading. What is not a file, such as a pipe, must
@@ -59,6 +64,7 @@ pub trait Disk {
         ensures opened { IfOk result (λ file. path_of file ≡ path.now) }
         ensures same { told self.new ≡ told self.old }
         ensures settled { durable self.new ≡ durable self.old }
+        ensures clean { failed_syncs self.new ≡ failed_syncs self.old }
         ensures steady { IsSteady (steady self.old) (steady self.new) result };
 
     /// Makes an empty file, which only its owner may read and write, and opens it for appending.
@@ -111,6 +117,7 @@ pub trait Disk {
         ensures named { OnOk result (NamesFiles path.now (told self.old) (durable self.new)) }
         ensures same { told self.new ≡ told self.old }
         ensures lasts { Lasts (durable self.old) (durable self.new) }
+        ensures clean { OnOk result (failed_syncs self.new ≡ failed_syncs self.old) }
         ensures steady { IsSteady (steady self.old) (steady self.new) result };
 
     /// Makes the bytes of the file durable, if its name is.
@@ -118,10 +125,12 @@ pub trait Disk {
     /// # Errors
     ///
     /// If the disk fails. A system may drop what was not durable then, and let a later call
-    /// succeed. So a file whose sync failed is not to be trusted again.
+    /// succeed. So a file whose sync failed is not to be trusted again, and no code over any disk
+    /// can meet `clean` by another try.
     fn sync(&mut self, file: &Self::File) -> Result<(), DiskFault>
         ensures synced { OnOk result (SyncsFile (path_of file.now) (told self.old) (durable self.old) (durable self.new)) }
         ensures same { told self.new ≡ told self.old }
         ensures lasts { Lasts (durable self.old) (durable self.new) }
+        ensures clean { OnOk result (failed_syncs self.new ≡ failed_syncs self.old) }
         ensures steady { IsSteady (steady self.old) (steady self.new) result };
 }

@@ -9,6 +9,7 @@ use crate::fault::DiskFault;
 use crate::file_path::FilePath;
 use crate::kind::{Kind, Metadata};
 use crate::maker::FileMaker;
+use crate::mem_maker::is_below;
 use std::alloc::Global;
 use std::fs::{DirBuilder, FileType, OpenFile, OpenOptions};
 use std::io::{ErrorKind, Write};
@@ -22,8 +23,10 @@ use std::{fs, io};
 pub struct HostDisk<F: Files + Drop> {
     alloc: Global,
     files: F,
-    /// Whether each file and folder that is made is synced.
+    /// Whether each file and folder that is made, or found in its place, is synced.
     is_syncing: bool,
+    /// The last folder that was found and whose name was synced. So were those on the way to it.
+    synced_way: Option<FilePath>,
 }
 
 /// An open file, and the path under which it was opened.
@@ -48,16 +51,18 @@ impl<F: Files + Drop> HostDisk<F> {
             alloc,
             files,
             is_syncing: false,
+            synced_way: None,
         }
     }
 
-    /// Returns the disk on which this handle opens files. It syncs each file that it finishes and
-    /// each folder that it makes, and then their names.
+    /// Returns the disk on which this handle opens files. It syncs each file that it finishes, or
+    /// finds alike, and the names of these and of each folder that it makes or finds on a way.
     pub fn syncing(alloc: Global, files: F) -> HostDisk<F> {
         HostDisk {
             alloc,
             files,
             is_syncing: true,
+            synced_way: None,
         }
     }
 
@@ -69,6 +74,41 @@ impl<F: Files + Drop> HostDisk<F> {
             Err(error) if error.kind() != ErrorKind::InvalidInput => Err(fault_of(error)),
             _ => Ok(()),
         }
+    }
+
+    /// Makes the bytes of a file durable, and then its name.
+    fn settle(&self, path: &str, file: &F::File) -> Result<(), DiskFault> {
+        file.sync_all().map_err(fault_of)?;
+        self.sync_names(folder_of(path))
+    }
+
+    /// Makes a file durable that is there already, and its name, if this disk syncs. The run that
+    /// wrote it may have been killed before it did so.
+    pub(crate) fn settle_found(&self, path: &str) -> Result<(), DiskFault> {
+        if !self.is_syncing {
+            return Ok(());
+        }
+        let file = to_read().open(&self.files, path).map_err(fault_of)?;
+        self.settle(path, &file)
+    }
+
+    /// Returns whether the folder at the path is the last one that was found, or on the way to it.
+    fn is_on_synced_way(&self, path: &[u8]) -> bool {
+        match &self.synced_way {
+            None => false,
+            Some(last) => last.bytes() == path || is_below(path, last.bytes()),
+        }
+    }
+
+    /// Makes the name of a folder durable that is there already, if this disk syncs. Folders on a
+    /// way are found from the first to the last, and mostly again for the next file.
+    fn sync_found(&mut self, path: &str) -> Result<(), DiskFault> {
+        if !self.is_syncing || self.is_on_synced_way(path.as_bytes()) {
+            return Ok(());
+        }
+        self.sync_names(folder_of(path))?;
+        self.synced_way = Some(FilePath::new(self.alloc, path.as_bytes())?);
+        Ok(())
     }
 
     /// Opens the file at the path.
@@ -227,9 +267,14 @@ impl<F: Files + Drop> FileMaker for HostDisk<F> {
 
     ghost is_steady = { λ _. ⊥ };
 
+    /// Returns what is at the path. A disk that syncs makes the name of a folder durable first.
     fn look(&mut self, path: &str) -> Result<Kind, DiskFault> {
         let metadata = fs::symlink_metadata(&self.files, path).map_err(fault_of)?;
-        Ok(kind_of(metadata.file_type()))
+        let kind = kind_of(metadata.file_type());
+        if let Kind::Folder = kind {
+            self.sync_found(path)?;
+        }
+        Ok(kind)
     }
 
     fn is_empty(&self, path: &str) -> Result<bool, DiskFault> {
@@ -263,8 +308,7 @@ impl<F: Files + Drop> FileMaker for HostDisk<F> {
         if !self.is_syncing {
             return Ok(());
         }
-        file.sync_all().map_err(fault_of)?;
-        self.sync_names(folder_of(path))
+        self.settle(path, &file)
     }
 
     fn remove(&mut self, path: &str) -> Result<(), DiskFault> {

@@ -1,10 +1,12 @@
-ghost use Rattle.std.specs.Prelude.{◌≡◌, ℕ, ◌-◌, ◌^◌, ◌<◌, ◌≤◌, List, [], length, take, bytes_eq, find, position, true, false};
-ghost use Rattle.std.specs.Prelude.{Option, option_map, IfOk, OnOk, OnErr, None, Some};
+ghost use Rattle.std.specs.Prelude.{◌≡◌, ℕ, ◌-◌, ◌^◌, ◌<◌, ◌≤◌, ◌⊎◌, List, [], ◌++◌, length, take, bytes_eq, find, position, true, false};
+ghost use Rattle.std.specs.Prelude.{Option, option_map, IfOk, OnOk, OnErr, None, Some, Err};
 ghost use Rattle.std.specs.Option.{option_copied};
 ghost use Rattle.br_model.specs.Volume.{volume_bytes};
-ghost use Rattle.br_fs.specs.Calls.{IsNothing, IsPartAt, IsTaken};
-ghost use Rattle.br_fs.specs.Memory.{Held, IsSeen, IsOtherIn, IsIn, durable_on, files_of, steady_of, with_appended};
-ghost use Rattle.br_fs.specs.Memory.{with_interrupts, with_calls, with_room};
+ghost use Rattle.br_fs.specs.Calls.{Appends, IsNothing, IsPartAt, IsSteady, IsTaken, KeepsFolders};
+ghost use Rattle.br_fs.specs.Durable.{Lasts, NamesFiles, SyncsFile};
+ghost use Rattle.br_fs.specs.Memory.{Held, IsSeen, IsOtherIn, IsIn, durable_on, entries_in, files_of, steady_of, with_appended};
+ghost use Rattle.br_fs.specs.Memory.{synced_after, with_interrupts, with_calls, with_room};
+ghost use Rattle.br_fs.specs.declared.fault.DiskFault.TheVariants.{Exists, NotFound};
 
 use crate::disk::Disk;
 use crate::fault::DiskFault;
@@ -15,7 +17,8 @@ use std::alloc::{AllocError, Global};
 use std::marker::Model;
 
 /// A disk over memory, for tests. Its reads and writes may be short or interrupted, its calls may
-/// fail from a given call on, and it may be full. At first nothing on it is durable.
+/// fail from a given call on, and it may be full. At first nothing on it is durable, and later no
+/// more than what was synced.
 #[derive(Drop)]
 pub struct MemDisk {
     alloc: Global,
@@ -277,7 +280,18 @@ impl Disk for MemDisk {
     }
 
     #[tactic(auto, using(crate::proofs::DurableLaws::lasts_same))]
-    fn create(&mut self, path: &str) -> Result<FilePath, DiskFault> {
+    fn create(&mut self, path: &str) -> Result<FilePath, DiskFault>
+        ensures opened { IfOk result (λ file. file ≡ path.now) }
+        ensures fresh { OnOk result (IsNothing (Some self.old.tree) path.now) }
+        ensures made { OnOk result (Appends path.now [] (Some self.old.tree) (Some self.new.tree)) }
+        ensures refused { OnErr result (Some self.new.tree ≡ Some self.old.tree) }
+        ensures taken { result ≡ Err Exists → IsTaken (Some self.old.tree) path.now }
+        ensures lasts { Lasts (Some (durable_on self.old)) (Some (durable_on self.new)) }
+        ensures folders { KeepsFolders (Some self.old.tree) (Some self.new.tree) }
+        ensures makes { result ≡ Err NotFound → steady_of self.old ≡ None }
+        ensures steady { IsSteady (steady_of self.old) (steady_of self.new) result }
+        ensures settled { self.new.synced ≡ self.old.synced }
+    {
         if !self.answers() {
             return Err(DiskFault::Failed);
         }
@@ -309,7 +323,16 @@ impl Disk for MemDisk {
     }
 
     #[tactic(auto, using(crate::proofs::DurableLaws::lasts_same))]
-    fn write(&mut self, file: &mut FilePath, bytes: &[u8]) -> Result<usize, DiskFault> {
+    fn write(&mut self, file: &mut FilePath, bytes: &[u8]) -> Result<usize, DiskFault>
+        ensures fits { IfOk result (λ n. n ≤ length bytes.now) }
+        ensures written { IfOk result (λ n. Appends file.old (take n bytes.now) (Some self.old.tree) (Some self.new.tree)) }
+        ensures refused { OnErr result (Some self.new.tree ≡ Some self.old.tree) }
+        ensures lasts { Lasts (Some (durable_on self.old)) (Some (durable_on self.new)) }
+        ensures file { file.new ≡ file.old }
+        ensures some { IfOk result (λ n. n ≡ 0 → (length bytes.now ≡ 0) ⊎ (steady_of self.old ≡ None)) }
+        ensures steady { IsSteady (steady_of self.old) (steady_of self.new) result }
+        ensures settled { self.new.synced ≡ self.old.synced }
+    {
         if !self.answers() {
             return Err(DiskFault::Failed);
         }
@@ -334,7 +357,14 @@ impl Disk for MemDisk {
     }
 
     #[tactic(auto, using(crate::proofs::DurableLaws::entries_last, crate::proofs::DurableLaws::entries_named, crate::proofs::DurableLaws::lasts_same))]
-    fn sync_folder(&mut self, path: &str) -> Result<(), DiskFault> {
+    fn sync_folder(&mut self, path: &str) -> Result<(), DiskFault>
+        ensures named { OnOk result (NamesFiles path.now (Some self.old.tree) (Some (durable_on self.new))) }
+        ensures same { Some self.new.tree ≡ Some self.old.tree }
+        ensures lasts { Lasts (Some (durable_on self.old)) (Some (durable_on self.new)) }
+        ensures steady { IsSteady (steady_of self.old) (steady_of self.new) result }
+        ensures exact { OnOk result (self.new.synced ≡ self.old.synced ++ entries_in path.now self.old.tree.files) }
+        ensures settled { OnErr result (self.new.synced ≡ self.old.synced) }
+    {
         if !self.answers() {
             return Err(DiskFault::Failed);
         }
@@ -344,7 +374,14 @@ impl Disk for MemDisk {
     }
 
     #[tactic(auto, using(crate::proofs::DurableLaws::synced_last, crate::proofs::DurableLaws::synced_durable, crate::proofs::DurableLaws::lasts_same))]
-    fn sync(&mut self, file: &FilePath) -> Result<(), DiskFault> {
+    fn sync(&mut self, file: &FilePath) -> Result<(), DiskFault>
+        ensures synced { OnOk result (SyncsFile file.now (Some self.old.tree) (Some (durable_on self.old)) (Some (durable_on self.new))) }
+        ensures same { Some self.new.tree ≡ Some self.old.tree }
+        ensures lasts { Lasts (Some (durable_on self.old)) (Some (durable_on self.new)) }
+        ensures steady { IsSteady (steady_of self.old) (steady_of self.new) result }
+        ensures exact { OnOk result (self.new.synced ≡ synced_after file.now self.old) }
+        ensures settled { OnErr result (self.new.synced ≡ self.old.synced) }
+    {
         if !self.answers() {
             return Err(DiskFault::Failed);
         }

@@ -1,11 +1,16 @@
--- Lines of jobs, one after the other.
-use Rattle.std.proofs.Common.{◌≡◌, ℕ, ◌+◌, ◌<◌, length, get_or, take, Bool, true, false, cond, List, [], ◌∷◌, ◌++◌, filter, flat_map, sym, ap, subst, ◌∙◌, append-nil}
+-- Lines of jobs, one after the other, and the numbers of the chosen ones.
+use Rattle.std.proofs.Common.{◌≡◌, ℕ, ◌+◌, ◌<◌, ◌||◌, eqb, length, get_or, take, Bool, true, false, cond, List, [], ◌∷◌, ◌++◌, filter, flat_map, sym, ap, subst, ◌∙◌, append-nil}
 use Rattle.std.specs.Borrow.{Bor}
 use Rattle.std.specs.List.{AllZip}
+use Rattle.std.specs.Ordering.{nat_cmp}
+use Rattle.std.specs.BTreeSet.{BTreeSet, contains}
+use Rattle.std.specs.List.{list_any}
 use Rattle.std.proofs.lemmas.List.{take_more}
+use Rattle.std.proofs.lemmas.List.Folds.{list_any_more}
 use Rattle.std.proofs.lemmas.List.Elements.{filter-append}
 use Rattle.std.proofs.lemmas.Grind.{flat_map-append}
 use Rattle.br_model.specs.Job.{JobRows}
+use Rattle.br_jobs.specs.JobNumbers.{AddsNumber, AreNumbers}
 use Rattle.br_jobs.specs.ListingLine.{is_chosen}
 use Rattle.br_jobs.specs.LocalTime.{AppendsLineIn, AreLinesIn, IsLineIn}
 use Rattle.br_jobs.specs.declared.time_zones.Zones.{Zones}
@@ -41,3 +46,11 @@ lines_more zones chosen p jobs i j before after inside is are more =
     let next : take (i + 1) jobs ≡ take i jobs ++ j ∷ [] = take_more jobs i j inside ∙ ap (λ (k : JobRows). take i jobs ++ k ∷ []) (sym is) in
     subst (λ (js : List JobRows). AreLinesIn zones chosen js after) (sym (ap (filter p) next ∙ filter-append p (take i jobs) (j ∷ [])))
     (one_more zones chosen (filter p (take i jobs)) j before after (p j) are more)
+
+-- the numbers of jobs, one job more
+pub numbers_more : (old new : BTreeSet ℕ) (jobs : List (Bor JobRows)) (i n : ℕ) (j : Bor JobRows) → i < length jobs → j ≡ get_or jobs i j → n ≡ j.now.row.id
+    → AreNumbers (take i jobs) old → AddsNumber old n new → AreNumbers (take (i + 1) jobs) new
+numbers_more old new jobs i n j lt is number before adds q =
+    let test : Bor JobRows → Bool = λ k. eqb k.now.row.id q in
+    adds q ∙ ap (λ b. b || eqb n q) (before q) ∙ ap (λ m. list_any test (take i jobs) || eqb m q) number
+    ∙ ap (λ (k : Bor JobRows). list_any test (take i jobs) || test k) is ∙ sym (list_any_more test jobs i j lt)

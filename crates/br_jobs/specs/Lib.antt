@@ -4,3 +4,4 @@ pub mod ListingLine
 pub mod LocalTime
 pub mod PurgedJobs
 pub mod JobMarks
+pub mod JobNumbers

@@ -1,5 +1,5 @@
 -- The line of a job with its moment also in a time zone.
-use Rattle.std.specs.Prelude.{◌≡◌, ◌⊎◌, ℕ, ◌*◌, ℤ, pos, ◌+ℤ◌, Bool, true, false, List, ◌∷◌, ◌++◌, flat_map, codes, Option, Some, None, option_map}
+use Rattle.std.specs.Prelude.{◌≡◌, ◌⊎◌, ℕ, ◌==◌, ◌*◌, ℤ, pos, ◌+ℤ◌, Bool, true, false, List, ◌∷◌, ◌++◌, flat_map, if◌then◌else◌, map, codes, Option, Some, None, option_map}
 use Rattle.std.specs.Borrow.{Bor}
 use Rattle.std.specs.List.{AllZip}
 use Rattle.br_model.specs.Job.{JobRows}
@@ -15,26 +15,30 @@ use Rattle.br_jobs.specs.declared.time_zones.Zones.TheVariants.{Utc, UtcAndLocal
 abbrev pub nanos_at : ℕ → ℤ
 nanos_at seconds = pos (seconds * 1_000_000_000)
 
--- date and time on the zone's clock with a T between them, and the zone's offset then, as
--- 2026-11-22T00:15:33+01:00
+-- a blank in place of a T
+abbrev pub blank_for_t : ℕ → ℕ
+blank_for_t byte = if byte == 84 then 32 else byte
+
+-- date and time on the zone's clock with a blank between them, and the zone's offset then, as
+-- 2026-11-22 00:15:33+01:00
 abbrev pub IsOnClock : TimeZone → ℤ → List ℕ → Type 0
 IsOnClock zone nanos text =
     (clock : DateTime) × (offset : Offset) × (offset.seconds ≡ offset_at zone nanos)
-    × (civil_nanos clock ≡ nanos +ℤ nanos_of_seconds offset.seconds) × (text ≡ iso_datetime_text clock ++ offset_text offset)
+    × (civil_nanos clock ≡ nanos +ℤ nanos_of_seconds offset.seconds) × (text ≡ map blank_for_t (iso_datetime_text clock ++ offset_text offset))
 
 -- no instant is this number of nanoseconds from the beginning of 1970: the last second of all is
 -- 9999-12-30 22:00:00 in UTC
 abbrev pub IsBeyond : ℤ → Type 0
 IsBeyond nanos = IsTimestampNanos nanos → ⊥
 
--- the text of a moment in a zone; - if the moment is beyond the last instant
+-- the text of a moment in a zone; two - if the moment is beyond the last instant
 abbrev pub IsShownIn : TimeZone → ℕ → List ℕ → Type 0
 IsShownIn zone seconds text =
-    (IsTimestampNanos (nanos_at seconds) × IsOnClock zone (nanos_at seconds) text) ⊎ (IsBeyond (nanos_at seconds) × (text ≡ codes "-"))
+    (IsTimestampNanos (nanos_at seconds) × IsOnClock zone (nanos_at seconds) text) ⊎ (IsBeyond (nanos_at seconds) × (text ≡ codes "- -"))
 
--- the text of a moment in a zone; - if the zone is not known
+-- the text of a moment in a zone; two - if the zone is not known
 abbrev pub IsLocal : Option TimeZone → ℕ → List ℕ → Type 0
-IsLocal None seconds text = text ≡ codes "-"
+IsLocal None seconds text = text ≡ codes "- -"
 IsLocal (Some zone) seconds text = IsShownIn zone seconds text
 
 -- the line of a job with its moment in a zone after that in UTC
@@ -59,5 +63,5 @@ AppendsLineIn zones true chosen j before after = (line : List ℕ) × IsLineIn z
 AppendsLineIn zones false chosen j before after = after ≡ before
 
 -- the line of a job was appended if the filter lists the job
-abbrev pub AppendsJob : Zones → Filter → List (Bor JobRows) → JobRows → List ℕ → List ℕ → Type 0
-AppendsJob zones f chosen j before after = AppendsLineIn zones (is_listed f j) (is_chosen chosen j) j before after
+abbrev pub AppendsJob : Zones → Filter → Bool → JobRows → List ℕ → List ℕ → Type 0
+AppendsJob zones f chosen j before after = AppendsLineIn zones (is_listed f j) chosen j before after

@@ -1,7 +1,7 @@
 //! The text of a moment in a time zone.
-ghost use Rattle.std.specs.Prelude.{◌≡◌, ◌↔◌, codes, IfOk, IfSome, IsSome, option_map};
+ghost use Rattle.std.specs.Prelude.{◌≡◌, ◌↔◌, codes, map, IfOk, IfSome, IsSome, option_map};
 ghost use Rattle.jiff.specs.Words.{plain_zone, IsTimestampNanos};
-ghost use Rattle.br_jobs.specs.LocalTime.{IsLocal, IsOnClock, IsShownIn, nanos_at};
+ghost use Rattle.br_jobs.specs.LocalTime.{IsLocal, IsOnClock, IsShownIn, blank_for_t, nanos_at};
 
 use jiff::Timestamp;
 use jiff::tz::TimeZone;
@@ -9,9 +9,27 @@ use std::alloc::{AllocError, Global};
 
 /// Returns the text of a moment that a zone can't show.
 fn no_text(alloc: Global) -> Result<Vec<u8>, AllocError>
-    ensures { IfOk result (λ text. text.items ≡ codes "-") }
+    ensures { IfOk result (λ text. text.items ≡ codes "- -") }
 {
-    Vec::from_slice(alloc, b"-")
+    Vec::from_slice(alloc, b"- -")
+}
+
+/// Returns a blank for a `T`, and any other byte as it is.
+fn blank_for_t(byte: u8) -> u8
+    ensures { result ≡ blank_for_t byte }
+{
+    if byte == b'T' { b' ' } else { byte }
+}
+
+/// Returns a text with a blank in place of each `T`.
+fn with_blanks(alloc: Global, text: &[u8]) -> Result<Vec<u8>, AllocError>
+    ensures { IfOk result (λ blank. blank.items ≡ map blank_for_t text.now) }
+{
+    let mut blank = Vec::new(alloc);
+    for byte in text {
+        blank.push(blank_for_t(*byte))?;
+    }
+    Ok(blank)
 }
 
 /// Returns the instant this number of seconds after the beginning of 1970, unless it is beyond the last one.
@@ -27,10 +45,10 @@ fn clock_text(alloc: Global, zone: &TimeZone<'_>, instant: Timestamp) -> Result<
     ensures { IfOk result (λ text. IsOnClock (plain_zone zone.now) instant.nanosecond text.items) }
 {
     let text = instant.display_with_offset(zone.to_offset(instant));
-    Vec::from_slice(alloc, text.as_bytes())
+    with_blanks(alloc, text.as_bytes())
 }
 
-/// Returns a moment in a zone, as `2026-11-22T00:15:33+01:00`; `-` if it is after jiff's last
+/// Returns a moment in a zone, as `2026-11-22 00:15:33+01:00`; `- -` if it is after jiff's last
 /// instant.
 fn zoned_text(alloc: Global, zone: &TimeZone<'_>, seconds: u64) -> Result<Vec<u8>, AllocError>
     ensures { IfOk result (λ text. IsShownIn (plain_zone zone.now) seconds text.items) }
@@ -41,7 +59,7 @@ fn zoned_text(alloc: Global, zone: &TimeZone<'_>, seconds: u64) -> Result<Vec<u8
     }
 }
 
-/// Returns a moment in a zone, as `2026-11-22T00:15:33+01:00`; `-` if the zone is not known, or has no such
+/// Returns a moment in a zone, as `2026-11-22 00:15:33+01:00`; `- -` if the zone is not known, or has no such
 /// moment.
 pub(crate) fn local_text(
     alloc: Global,

@@ -5,10 +5,10 @@ use Rattle.br_history.specs.Saving.{ToCommit}
 use Rattle.br_keeper.specs.Beginnings.{Beginning}
 use Rattle.br_keeper.specs.declared.fault.KeeperFault.{KeeperFault}
 use Rattle.br_keeper.specs.declared.fault.KeeperFault.TheVariants.{Memory, DuplicateJob, DuplicateSession, BadRow, RetiredVolume, Volume, Store, StoredNotPublished, BadCatalogue}
-use Rattle.br_keeper.specs.Writing.{Shelf}
-use Rattle.br_keeper.specs.Keeping.{Keeping}
-use Rattle.br_keeper.specs.Committing.{Commits}
-use Rattle.br_keeper.specs.Outcomes.{AppendsFrontAndRetires, Backing, IsEarly, OnlyAppends, Refuses, StoresAndPublishes, StoresUnpublished}
+use Rattle.br_keeper.specs.Writing.{AreDurable, Shelf}
+use Rattle.br_keeper.specs.Keeping.{Keeping, jobs_of}
+use Rattle.br_keeper.specs.Committing.{Commits, IsWrittenTo}
+use Rattle.br_keeper.specs.Outcomes.{AppendsFrontAndRetires, Backing, CommitsDurably, IsEarly, Lasting, OnlyAppends, Refuses, StoresAndPublishes, StoresUnpublished}
 
 module _ {C W : Type 0} (inserts refuses : JobRows → C → C → Type 0) (shelf : Keeping C W → Shelf) (c : ToCommit) (old new : Keeping C W) where
   abbrev pub over : Backing C W
@@ -54,3 +54,27 @@ module _ {C W : Type 0} (inserts refuses : JobRows → C → C → Type 0) (shel
   commits_of (Err BadRow) stored waits blocks torn refused = refused tt
   commits_of (Err RetiredVolume) stored waits blocks torn refused = refused tt
   commits_of (Err BadCatalogue) stored waits blocks torn refused = absurd (refused tt).0.1
+
+-- ---- whose blocks are durable
+
+module _ {C W : Type 0} (on : Lasting C W) (c : ToCommit) (old new : Keeping C W) where
+  -- the catalogue is changed, whatever else holds of the rows
+  written_plain : (change : JobRows → C → C → Type 0) (P : JobRows → Type 0) (rows : JobRows)
+      → IsWrittenTo (λ rows before after. change rows before after × P rows) (jobs_of old) c old.catalogue new.catalogue (on.backing.shelf old) (on.backing.shelf new) rows
+      → IsWrittenTo change (jobs_of old) c old.catalogue new.catalogue (on.backing.shelf old) (on.backing.shelf new) rows
+  written_plain change P rows is = record { written = is.written; ready = is.ready; blocks = is.blocks; catalogue = is.catalogue.0 }
+
+  abbrev AreLasting : JobRows → Type 0
+  AreLasting rows = AreDurable rows.spans (on.backing.shelf new).volumes (on.durable new.volumes)
+
+  pub committed : (r : Result Beginning KeeperFault) → CommitsDurably on c old new r → Commits on.backing.inserts on.backing.refuses on.backing.shelf c old new r
+  committed (Ok receipt) is = (is.0, written_plain on.backing.inserts AreLasting is.0 is.1, is.2, is.3)
+  committed (Err StoredNotPublished) is = (is.0, written_plain on.backing.inserts AreLasting is.0 is.1, is.2)
+  committed (Err Store) is = ((is.0.0, written_plain on.backing.refuses AreLasting is.0.0 is.0.1), is.1)
+  committed (Err Memory) is = is
+  committed (Err DuplicateJob) is = is
+  committed (Err DuplicateSession) is = is
+  committed (Err BadRow) is = is
+  committed (Err RetiredVolume) is = is
+  committed (Err Volume) is = is
+  committed (Err BadCatalogue) is = is

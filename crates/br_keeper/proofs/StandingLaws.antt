@@ -248,7 +248,7 @@ module _ (c : ToCommit) (history : List JobRows) (vs : List Vouch) (jobs : List 
             (stood vs history jobs earlier is name) (entry_stays blocks entries name other ∙ not_entered vs history c.places name none) same (volumes_reach later name now hold)
 
     -- the job that was written holds
-    written_holds : (rows : JobRows) (written : Written) → IsSession c (starts_of vs history c.places) rows written → AreAppended written.blocks earlier later → Holds later (job_with c rows)
+    pub written_holds : (rows : JobRows) (written : Written) → IsSession c (starts_of vs history c.places) rows written → AreAppended written.blocks earlier later → Holds later (job_with c rows)
     written_holds rows written session appended =
         let starts = starts_of vs history c.places in
         let ready : AllByRecursion (λ (p : Place). IsReady earlier starts p.volume) c.places =
@@ -395,9 +395,10 @@ pub unsynced_stands : (history : List JobRows) (c : ToCommit) (old new : Shelf) 
     → IfSome old.volumes (AreStanding old.vouches history jobs) → IfSome new.volumes (AreStanding new.vouches history jobs)
 unsynced_stands history c old new jobs m is =
     let middle = m.unsynced.middle in
-    let last = m.unsynced.unsynced in
+    let last = m.unsynced.unsynced.failed in
+    let volume = m.unsynced.unsynced.span.volume in
     let r = written_stands c history old.vouches jobs m.rows m.written old.volumes middle.volumes m.ready.session m.unsynced.serve m.unsynced.written.appended is in
     let all = after_blocks m.written.blocks (old.vouches ++ new_entries old.vouches (starts_of old.vouches history c.places)) in
     subst (λ (told : Option (List Volume)). IfSome told (AreStanding new.vouches history jobs)) (sym last.volumes_are)
-    (subst (λ (vs : List Vouch). IfSome middle.volumes (AreStanding vs history jobs)) (sym (last.vouches_are ∙ ap (changed retired last.start.0) m.unsynced.written.vouches_are))
-    (retired_stand all history jobs middle.volumes last.start.0 r.1))
+    (subst (λ (vs : List Vouch). IfSome middle.volumes (AreStanding vs history jobs)) (sym (last.vouches_are ∙ ap (changed retired volume) m.unsynced.written.vouches_are))
+    (retired_stand all history jobs middle.volumes volume r.1))

@@ -1,9 +1,12 @@
 -- Blocks that are appended one after another, and the volumes that are tested before.
-use Rattle.std.proofs.Common.{◌≡◌, ℕ, ◌+◌, ◌<◌, ◌≤◌, ◌⊎◌, true, zero, suc, List, [], ◌∷◌, ◌++◌, length, take, drop, get_or, Option, Some, None, Result, Ok, Err, refl, sym, ap, subst, ◌∙◌, inl, inr, arith, append_assoc}
+use Rattle.std.proofs.Common.{◌≡◌, ℕ, ◌+◌, ◌<◌, ◌≤◌, ◌⊎◌, Bool, true, false, ◌||◌, zero, suc, List, [], ◌∷◌, ◌++◌, length, take, drop, get_or, Option, Some, None, Result, Ok, Err, refl, sym, ap, subst, ◌∙◌, inl, inr, arith, append_assoc}
 use Rattle.std.proofs.lemmas.List.{take_more, map-append}
 use Rattle.std.proofs.lemmas.List.Sums.{fold-append}
+use Rattle.std.proofs.lemmas.Slice.Eq.{bytes_eq-Decides}
 use Rattle.std.specs.Global.{Vec}
 use Rattle.std.specs.List.{AllByRecursion}
+use Rattle.std.specs.Prelude.{bytes_eq}
+use Rattle.br_model.specs.Job.{Span}
 use Rattle.br_model.specs.Volume.{Volume}
 use Rattle.br_model.proofs.ListLaws.{all_append}
 use Rattle.br_volume.specs.Store.{AppendsTo, AppendsInPartTo, Failures, FailsOn, IsDurableIn, Lasts}
@@ -11,7 +14,8 @@ use Rattle.br_keeper.specs.declared.vouched_lengths.Vouch.{Vouch}
 use Rattle.br_keeper.specs.declared.fault.KeeperFault.{KeeperFault}
 use Rattle.br_history.specs.Preparing.{seen}
 use Rattle.br_keeper.specs.Vouching.{changed, is_retired, longer, new_entries, retired}
-use Rattle.br_keeper.specs.Writing.{Shelf, AppendInTurn, AppendsAll, AreWritten, ChecksVolume, ChecksVolumes, HasOtherLength, IsCutOff, IsKept, IsUnsynced, IsVouched, SyncsAll, WritesBlocks, after_blocks, with_entries}
+use Rattle.br_keeper.specs.Writing.{Shelf, AppendInTurn, AppendsAll, AreDurable, AreWritten, ChecksVolume, ChecksVolumes, FailsSync, HasOtherLength, IsCutOff, IsKept, IsVouched, SyncsAll, SyncsOne, WritesBlocks}
+use Rattle.br_keeper.specs.Writing.{after_blocks, is_on_any, shelf, with_entries}
 use Rattle.br_volume.proofs.AppendLaws.{in_turn_more}
 
 -- ---- lists up to a place
@@ -58,25 +62,25 @@ after_next blocks block vouches = fold-append (λ vs (b : List ℕ × List ℕ).
 
 -- no block was appended yet
 pub written_none : (s : Shelf) → AreWritten [] s s
-written_none s = record { appended = turn_none s.volumes; vouches_are = refl; counted = omega arith }
+written_none s = record { appended = turn_none s.volumes; vouches_are = refl; clean = refl }
 
 -- one more was
 written_more : (blocks : List (List ℕ × List ℕ)) (block : List ℕ × List ℕ) (old middle new : Shelf) → AreWritten blocks old middle
-    → AppendsTo block.0 block.1 middle.volumes new.volumes → new.vouches ≡ changed (longer (length block.1)) block.0 middle.vouches → middle.failures.number ≤ new.failures.number
+    → AppendsTo block.0 block.1 middle.volumes new.volumes → new.vouches ≡ changed (longer (length block.1)) block.0 middle.vouches → new.failures ≡ middle.failures
     → AreWritten (blocks ++ block ∷ []) old new
-written_more blocks block old middle new is one vouches counted = record {
+written_more blocks block old middle new is one vouches clean = record {
   appended = turn_more blocks block old.volumes middle.volumes new.volumes is.appended one;
   vouches_are = vouches ∙ ap (changed (longer (length block.1)) block.0) is.vouches_are ∙ sym (after_next blocks block old.vouches);
-  counted = omega (arith, is.counted, counted);
+  clean = clean ∙ is.clean;
 }
 
 pub written_next : (blocks : List (List ℕ × Vec ℕ)) (i : ℕ) (block : List ℕ × Vec ℕ) (old middle new : Shelf) → i < length blocks → block ≡ get_or blocks i block
     → AreWritten (seen (take i blocks)) old middle
     → AppendsTo block.0 block.1.items middle.volumes new.volumes → new.vouches ≡ changed (longer (length block.1.items)) block.0 middle.vouches
-    → middle.failures.number ≤ new.failures.number → AreWritten (seen (take (i + 1) blocks)) old new
-written_next blocks i block old middle new lt is before one vouches counted =
+    → new.failures ≡ middle.failures → AreWritten (seen (take (i + 1) blocks)) old new
+written_next blocks i block old middle new lt is before one vouches clean =
     subst (λ (bs : List (List ℕ × List ℕ)). AreWritten bs old new) (sym (seen_next blocks i block lt is))
-    (written_more (seen (take i blocks)) (block.0, block.1.items) old middle new before one vouches counted)
+    (written_more (seen (take i blocks)) (block.0, block.1.items) old middle new before one vouches clean)
 
 -- the append of the next failed
 pub cut_off : (blocks : List (List ℕ × Vec ℕ)) (i : ℕ) (block : List ℕ × Vec ℕ) (old middle new : Shelf) → i < length blocks → block ≡ get_or blocks i block
@@ -94,17 +98,17 @@ cut_off blocks i block old middle new lt is before part vouches failed = record 
   appended = before.appended;
   in_part = part;
   vouches_are = vouches ∙ ap (changed retired block.0) before.vouches_are;
-  failed = (omega (arith, before.counted, failed.0), failed.1);
+  failed = (omega (arith, ap (λ (f : Failures). f.number) before.clean, failed.0), failed.1);
 }
 
 -- ---- from an earlier count of failures on
 
-pub written_since : (blocks : List (List ℕ × List ℕ)) (old middle new : Shelf) → middle.volumes ≡ old.volumes → middle.vouches ≡ old.vouches → old.failures.number ≤ middle.failures.number
+pub written_since : (blocks : List (List ℕ × List ℕ)) (old middle new : Shelf) → middle.volumes ≡ old.volumes → middle.vouches ≡ old.vouches → middle.failures ≡ old.failures
     → AreWritten blocks middle new → AreWritten blocks old new
-written_since blocks old middle new volumes vouches counted is = record {
+written_since blocks old middle new volumes vouches clean is = record {
   appended = subst (λ (vs : Option (List Volume)). AppendInTurn blocks vs new.volumes) volumes is.appended;
   vouches_are = is.vouches_are ∙ ap (after_blocks blocks) vouches;
-  counted = omega (arith, counted, is.counted);
+  clean = is.clean ∙ clean;
 }
 
 pub cut_off_since : (blocks : List (List ℕ × List ℕ)) (old middle new : Shelf) → middle.volumes ≡ old.volumes → middle.vouches ≡ old.vouches → old.failures.number ≤ middle.failures.number
@@ -155,60 +159,70 @@ refused_at vouches volumes now starts i s first before after why lt is all same 
 -- ---- both
 
 -- a volume that may not be written to
-pub not_vouched : (starts : List (List ℕ × ℕ)) (blocks : List (List ℕ × List ℕ)) (old new : Shelf) (why : KeeperFault) → IsKept old new
-    → ChecksVolumes old.vouches old.volumes old.failures new.failures starts (Err why) → WritesBlocks starts blocks old new (Err why)
-not_vouched starts blocks old new why kept (inl h) = subst (λ (w : KeeperFault). WritesBlocks starts blocks old new (Err w)) (sym h.0) (kept, h.1)
-not_vouched starts blocks old new why kept (inr h) = subst (λ (w : KeeperFault). WritesBlocks starts blocks old new (Err w)) (sym h.0) (inl (record { kept = kept; first = h.1 }))
+pub not_vouched : (starts : List (List ℕ × ℕ)) (blocks : List (List ℕ × List ℕ)) (spans : List Span) (old new : Shelf) (why : KeeperFault) → IsKept old new
+    → ChecksVolumes old.vouches old.volumes old.failures new.failures starts (Err why) → WritesBlocks starts blocks spans old new (Err why)
+not_vouched starts blocks spans old new why kept (inl h) = subst (λ (w : KeeperFault). WritesBlocks starts blocks spans old new (Err w)) (sym h.0) (kept, h.1)
+not_vouched starts blocks spans old new why kept (inr h) =
+    subst (λ (w : KeeperFault). WritesBlocks starts blocks spans old new (Err w)) (sym h.0) (inl (record { kept = kept; first = h.1 }))
 
 -- all of them may, and the append of a block failed
-pub not_written : (starts : List (List ℕ × ℕ)) (blocks : List (List ℕ × List ℕ)) (old middle new : Shelf) (why : KeeperFault)
+pub not_written : (starts : List (List ℕ × ℕ)) (blocks : List (List ℕ × List ℕ)) (spans : List Span) (old middle new : Shelf) (why : KeeperFault)
     → AllByRecursion (IsVouched old.vouches old.volumes) starts → middle.volumes ≡ old.volumes → middle.vouches ≡ old.vouches ++ new_entries old.vouches starts
-    → old.failures.number ≤ middle.failures.number → AppendsAll blocks middle new (Err why) → WritesBlocks starts blocks old new (Err why)
-not_written starts blocks old middle new why all volumes vouches counted is =
-    subst (λ (w : KeeperFault). WritesBlocks starts blocks old new (Err w)) (sym is.0)
+    → old.failures.number ≤ middle.failures.number → AppendsAll blocks middle new (Err why) → WritesBlocks starts blocks spans old new (Err why)
+not_written starts blocks spans old middle new why all volumes vouches counted is =
+    subst (λ (w : KeeperFault). WritesBlocks starts blocks spans old new (Err w)) (sym is.0)
     (inr (inl (record { serve = all; cut_off = cut_off_since blocks (with_entries starts old) middle new volumes vouches counted is.1 })))
 
 -- the blocks are appended, and then the volumes are synced
-written_kept : (blocks : List (List ℕ × List ℕ)) (old middle new : Shelf) → IsKept middle new → AreWritten blocks old middle → AreWritten blocks old new
-written_kept blocks old middle new kept is = record {
-  appended = subst (λ (vs : Option (List Volume)). AppendInTurn blocks old.volumes vs) (sym kept.volumes_are) is.appended;
-  vouches_are = kept.vouches_are ∙ is.vouches_are;
-  counted = omega (arith, is.counted, kept.counted);
-}
-
-pub blocks_synced : (starts : List (List ℕ × ℕ)) (blocks : List (List ℕ × List ℕ)) (old middle written new : Shelf) (r : Result (Unit {0}) KeeperFault)
+pub blocks_synced : (starts : List (List ℕ × ℕ)) (blocks : List (List ℕ × List ℕ)) (spans : List Span) (old middle written new : Shelf) (r : Result (Unit {0}) KeeperFault)
     → AllByRecursion (IsVouched old.vouches old.volumes) starts → middle.volumes ≡ old.volumes → middle.vouches ≡ old.vouches ++ new_entries old.vouches starts
-    → old.failures.number ≤ middle.failures.number → AreWritten blocks middle written → SyncsAll starts written new r → WritesBlocks starts blocks old new r
-blocks_synced starts blocks old middle written new (Ok u) all volumes vouches counted is synced = record {
+    → middle.failures ≡ old.failures → AreWritten blocks middle written → SyncsAll spans written new r → WritesBlocks starts blocks spans old new r
+blocks_synced starts blocks spans old middle written new (Ok u) all volumes vouches clean is synced = record {
   serve = all;
-  written = written_kept blocks (with_entries starts old) written new synced (written_since blocks (with_entries starts old) middle written volumes vouches counted is);
+  written =
+      subst (λ (s : Shelf). AreWritten blocks (with_entries starts old) s) (sym synced)
+      (written_since blocks (with_entries starts old) middle written volumes vouches clean is);
 }
-blocks_synced starts blocks old middle written new (Err why) all volumes vouches counted is synced =
-    subst (λ (w : KeeperFault). WritesBlocks starts blocks old new (Err w)) (sym synced.0)
+blocks_synced starts blocks spans old middle written new (Err why) all volumes vouches clean is synced =
+    subst (λ (w : KeeperFault). WritesBlocks starts blocks spans old new (Err w)) (sym synced.0)
     (inr (inr (record {
       serve = all;
       middle = written;
-      written = written_since blocks (with_entries starts old) middle written volumes vouches counted is;
+      written = written_since blocks (with_entries starts old) middle written volumes vouches clean is;
       unsynced = synced.1;
     })))
 
 -- ---- volumes that are synced one after another
 
-pub kept_none : (s : Shelf) → IsKept s s
-kept_none s = record { volumes_are = refl; vouches_are = refl; counted = omega arith }
+-- a shelf of which nothing is changed
+pub shelf_same : (was is : Option (List Volume)) (before after : Failures) (vouches : List Vouch) → is ≡ was → after ≡ before
+    → shelf is after vouches ≡ shelf was before vouches
+shelf_same was is before after vouches same clean = rw (same, clean) refl
 
 -- the sync of the next failed
-pub unsynced_at : (starts : List (List ℕ × ℕ)) (i : ℕ) (s : List ℕ × ℕ) (old middle new : Shelf) → i < length starts → s ≡ get_or starts i s
-    → IsKept old middle → new.volumes ≡ middle.volumes → new.vouches ≡ changed retired s.0 middle.vouches → FailsOn s.0 middle.failures new.failures → IsUnsynced starts old new
-unsynced_at starts i s old middle new lt is kept volumes vouches failed = record {
-  earlier = take i starts;
-  start = s;
-  rest = drop (suc i) starts;
-  split = split_at starts i s lt is;
-  volumes_are = volumes ∙ kept.volumes_are;
-  vouches_are = vouches ∙ ap (changed retired s.0) kept.vouches_are;
-  failed = (omega (arith, kept.counted, failed.0), failed.1);
-}
+pub unsynced_at : (spans : List Span) (i : ℕ) (s : Span) (old middle new : Shelf) (why : KeeperFault) → i < length spans → s ≡ get_or spans i s → middle ≡ old
+    → SyncsOne s.volume middle new (Err why) → SyncsAll spans old new (Err why)
+unsynced_at spans i s old middle new why lt is same one = (
+  one.0,
+  record {
+    earlier = take i spans;
+    span = s;
+    rest = drop (suc i) spans;
+    split = split_at spans i s lt is;
+    failed = subst (λ (m : Shelf). FailsSync s.volume m new) same one.1;
+  },
+)
+
+-- the volume of one of the spans before is durable, if those of all these are
+pub durable_before : (spans : List Span) (volume : List ℕ) (told durable : Option (List Volume)) → is_on_any spans volume ≡ true → AreDurable spans told durable
+    → IsDurableIn told durable volume
+durable_before [] volume told durable any all = absurd cc
+durable_before (s ∷ ss) volume told durable any all = go (bytes_eq s.volume volume) refl any (λ more. durable_before ss volume told durable more all.1)
+  where
+    go : (b : Bool) → bytes_eq s.volume volume ≡ b → (b || is_on_any ss volume) ≡ true → (is_on_any ss volume ≡ true → IsDurableIn told durable volume)
+        → IsDurableIn told durable volume
+    go true e any rest = subst (IsDurableIn told durable) ((bytes_eq-Decides s.volume volume).0 e) all.0
+    go false e any rest = rest any
 
 -- what is durable of a volume stays so
 pub durable_on : (told before after : Option (List Volume)) (name : List ℕ) → Lasts before after → IsDurableIn told before name → IsDurableIn told after name
@@ -221,7 +235,6 @@ durable_on (Some volumes) (Some a) (Some b) name lasts is = λ bytes found.
     let l = lasts name (bytes ++ d.0) d.1 in
     (d.0 ++ l.0, l.1 ∙ ap (λ (bs : List ℕ). Some bs) (append_assoc bytes d.0 l.0))
 
-pub all_durable_on : (starts : List (List ℕ × ℕ)) (told before after : Option (List Volume)) → Lasts before after
-    → AllByRecursion (λ (s : List ℕ × ℕ). IsDurableIn told before s.0) starts → AllByRecursion (λ (s : List ℕ × ℕ). IsDurableIn told after s.0) starts
+pub all_durable_on : (spans : List Span) (told before after : Option (List Volume)) → Lasts before after → AreDurable spans told before → AreDurable spans told after
 all_durable_on [] told before after lasts all = tt
-all_durable_on (s ∷ ss) told before after lasts all = (durable_on told before after s.0 lasts all.0, all_durable_on ss told before after lasts all.1)
+all_durable_on (s ∷ ss) told before after lasts all = (durable_on told before after s.volume lasts all.0, all_durable_on ss told before after lasts all.1)

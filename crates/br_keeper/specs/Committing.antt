@@ -57,12 +57,12 @@ pub record MeetsFailure (history : List JobRows) (c : ToCommit) (old new : Shelf
   pub ready : IsReady history c old rows written
   pub cut_off : IsCutOffFrom (starts_for history c old) written.blocks old new
 
--- the session is ready and all its blocks are appended, and the sync of a volume of its places failed
+-- the session is ready and all its blocks are appended, and the sync of a volume of its spans failed
 pub record MeetsFailedSync (history : List JobRows) (c : ToCommit) (old new : Shelf) : Type 0 where
   pub rows : JobRows
   pub written : Written
   pub ready : IsReady history c old rows written
-  pub unsynced : IsUnsyncedFrom (starts_for history c old) written.blocks old new
+  pub unsynced : IsUnsyncedFrom (starts_for history c old) written.blocks rows.spans old new
 
 -- 44: the store of volumes failed at a length, at an append, or at a sync
 abbrev pub MeetsFailedStore : List JobRows → ToCommit → Shelf → Shelf → Type 0

@@ -1,8 +1,5 @@
 -- What each outcome of a commit says.
-use Rattle.std.specs.Prelude.{◌≡◌, ◌⊎◌, List, [], ◌∷◌, ◌++◌, Option, Result, Ok, Err, ⊤}
-use Rattle.std.specs.List.{AllByRecursion}
-use Rattle.br_model.specs.Session.{Place}
-use Rattle.br_volume.specs.Store.{IsDurableIn}
+use Rattle.std.specs.Prelude.{◌≡◌, ◌⊎◌, List, [], ◌∷◌, ◌++◌, Option, Result, ⊤}
 use Rattle.br_model.specs.Volume.{Volume as VolumeOf}
 use Rattle.br_model.specs.Job.{JobRows}
 use Rattle.br_history.specs.Saving.{ToCommit}
@@ -12,9 +9,9 @@ use Rattle.br_keeper.specs.declared.fault.KeeperFault.{KeeperFault}
 use Rattle.br_keeper.specs.declared.fault.KeeperFault.TheVariants.{Memory, Volume, Store, StoredNotPublished}
 use Rattle.br_keeper.specs.Beginnings.{Beginning, beginning}
 use Rattle.br_keeper.specs.Publishing.{all_published, with_added}
-use Rattle.br_keeper.specs.Writing.{Shelf}
+use Rattle.br_keeper.specs.Writing.{AreDurable, Shelf}
 use Rattle.br_keeper.specs.Keeping.{Keeping, jobs_of, shelf_of}
-use Rattle.br_keeper.specs.Committing.{IsReason, IsUntouched, IsWrittenTo, MeetsFailedStore}
+use Rattle.br_keeper.specs.Committing.{Commits, IsReason, IsUntouched, IsWrittenTo, MeetsFailedStore, Stores}
 
 -- what backs a keeper: how its catalogue inserts and refuses rows, and what its volumes hold
 pub record Backing (C W : Type 0) : Type 1 where
@@ -35,9 +32,25 @@ pub record Lasting (C W : Type 0) : Type 1 where
 abbrev pub lasting : {C W : Type 0} → jobs.Ghosts C → volumes.Ghosts W → Lasting C W
 lasting catalogue store = record { backing = backing catalogue store; durable = store.durable }
 
+-- the backing of such a keeper, if its catalogue is changed for no rows but those whose blocks are durable
+abbrev pub durably : {C W : Type 0} → Lasting C W → Keeping C W → Backing C W
+durably on now = record {
+  inserts = λ rows before after. on.backing.inserts rows before after × AreDurable rows.spans (on.backing.shelf now).volumes (on.durable now.volumes);
+  refuses = λ rows before after. on.backing.refuses rows before after × AreDurable rows.spans (on.backing.shelf now).volumes (on.durable now.volumes);
+  shelf = on.backing.shelf;
+}
+
 module _ {C W : Type 0} where
-  -- All blocks are appended, and the catalogue has the rows. All jobs are published, this one last, and the
-  -- receipt is of them.
+  -- the result for a job that is stored, whose blocks are durable before its rows are inserted
+  abbrev pub StoresDurably : Lasting C W → ToCommit → Keeping C W → Keeping C W → Result JobRows KeeperFault → Type 0
+  StoresDurably on c old new result = Stores (durably on new).inserts (durably on new).refuses on.backing.shelf c old new result
+
+  -- the result for one that is committed
+  abbrev pub CommitsDurably : Lasting C W → ToCommit → Keeping C W → Keeping C W → Result Beginning KeeperFault → Type 0
+  CommitsDurably on c old new result = Commits (durably on new).inserts (durably on new).refuses on.backing.shelf c old new result
+
+  -- All blocks are appended, no call of the store of volumes has failed, and the catalogue has the rows. All
+  -- jobs are published, this one last, and the receipt is of them.
   abbrev pub StoresAndPublishes : Backing C W → ToCommit → Keeping C W → Keeping C W → Beginning → Type 0
   StoresAndPublishes b c old new receipt =
       (rows : JobRows) × IsWrittenTo b.inserts (jobs_of old) c old.catalogue new.catalogue (b.shelf old) (b.shelf new) rows
@@ -69,18 +82,6 @@ module _ {C W : Type 0} where
   Refuses b c old new why =
       (IsUntouched old.catalogue new.catalogue (b.shelf old) (b.shelf new) × IsReason (jobs_of old) c (b.shelf old) why)
       × (new.list ≡ all_published old.list)
-
--- if the blocks of a job are appended and synced, whatever the catalogue says of its rows then, this
--- holds
-abbrev pub IfSynced : {A : Type 0} → Result A KeeperFault → Type 0 → Type 0
-IfSynced (Ok x) claim = claim
-IfSynced (Err Store) claim = claim
-IfSynced (Err StoredNotPublished) claim = claim
-IfSynced (Err why) claim = ⊤
-
--- all bytes of the volumes of a job's places are durable
-abbrev pub AreDurableAt : ToCommit → Option (List VolumeOf) → Option (List VolumeOf) → Type 0
-AreDurableAt c told durable = AllByRecursion (λ (p : Place). IsDurableIn told durable p.volume) c.places
 
 -- the refusals after the first append have clauses of their own
 abbrev pub IsEarly : KeeperFault → Type 0

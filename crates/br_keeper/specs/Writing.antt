@@ -1,6 +1,7 @@
 -- Blocks that are appended to volumes with vouched lengths.
-use Rattle.std.specs.Prelude.{◌≡◌, ℕ, ◌≤◌, ◌⊎◌, true, false, List, ◌∷◌, ◌++◌, length, fold, Option, Some, None, Result, Ok, Err, ⊤}
-use Rattle.std.specs.List.{AllByRecursion}
+use Rattle.std.specs.Prelude.{◌≡◌, ℕ, ◌≤◌, ◌⊎◌, Bool, true, false, List, ◌∷◌, ◌++◌, length, fold, bytes_eq, Option, Some, None, Result, Ok, Err, ⊤}
+use Rattle.std.specs.List.{AllByRecursion, list_any}
+use Rattle.br_model.specs.Job.{Span}
 use Rattle.br_model.specs.Volume.{Volume}
 use Rattle.br_model.specs.SessionHolds.{bytes_of_volume}
 use Rattle.br_volume.specs.Store.{AppendsInPartTo, AreAppendedInTurn, Failures, FailsOn, IsDurableIn, IsLengthIn}
@@ -89,11 +90,11 @@ AppendInTurn blocks (Some earlier) None = ⊥
 abbrev pub after_blocks : List (List ℕ × List ℕ) → List Vouch → List Vouch
 after_blocks blocks vouches = fold (λ vs (b : List ℕ × List ℕ). changed (longer (length b.1)) b.0 vs) vouches blocks
 
--- all blocks are appended
+-- all blocks are appended, and no call of the store has failed
 pub record AreWritten (blocks : List (List ℕ × List ℕ)) (old new : Shelf) : Type 0 where
   pub appended : AppendInTurn blocks old.volumes new.volumes
   pub vouches_are : new.vouches ≡ after_blocks blocks old.vouches
-  pub counted : old.failures.number ≤ new.failures.number
+  pub clean : new.failures ≡ old.failures
 
 -- the append of a block failed: those before it are appended, and at most a part of it; its volume
 -- is retired
@@ -120,29 +121,47 @@ AppendsAllTo holds failures blocks old new before after result =
 
 -- ---- syncs
 
--- the sync of the volume of one of these failed: that volume is retired, and all else is as before
-pub record IsUnsynced (starts : List (List ℕ × ℕ)) (old new : Shelf) : Type 0 where
-  pub earlier : List (List ℕ × ℕ)
-  pub start : List ℕ × ℕ
-  pub rest : List (List ℕ × ℕ)
-  pub split : earlier ++ start ∷ rest ≡ starts
+-- the sync of a volume failed: it is retired, and all else is as before
+pub record FailsSync (volume : List ℕ) (old new : Shelf) : Type 0 where
   pub volumes_are : new.volumes ≡ old.volumes
-  pub vouches_are : new.vouches ≡ changed retired start.0 old.vouches
-  pub failed : FailsOn start.0 old.failures new.failures
+  pub vouches_are : new.vouches ≡ changed retired volume old.vouches
+  pub failed : FailsOn volume old.failures new.failures
 
--- all volumes are synced, or the sync of one failed
-abbrev pub SyncsAll : List (List ℕ × ℕ) → Shelf → Shelf → Result (Unit {0}) KeeperFault → Type 0
-SyncsAll starts old new (Ok u) = IsKept old new
-SyncsAll starts old new (Err why) = (why ≡ VolumeFails) × IsUnsynced starts old new
+-- the volume is synced, and no call of the store has failed; or its sync failed
+abbrev pub SyncsOne : List ℕ → Shelf → Shelf → Result (Unit {0}) KeeperFault → Type 0
+SyncsOne volume old new (Ok u) = new ≡ old
+SyncsOne volume old new (Err why) = (why ≡ VolumeFails) × FailsSync volume old new
 
 -- the same, for a store of volumes before and after
-abbrev pub SyncsAllTo : {W : Type 0} → (W → Option (List Volume)) → (W → Failures) → List (List ℕ × ℕ) → W → W → List Vouch → List Vouch → Result (Unit {0}) KeeperFault → Type 0
-SyncsAllTo holds failures starts old new before after result =
-    SyncsAll starts (shelf_in holds failures old before) (shelf_in holds failures new after) result
+abbrev pub SyncsOneTo : {W : Type 0} → (W → Option (List Volume)) → (W → Failures) → List ℕ → W → W → List Vouch → List Vouch → Result (Unit {0}) KeeperFault → Type 0
+SyncsOneTo holds failures volume old new before after result =
+    SyncsOne volume (shelf_in holds failures old before) (shelf_in holds failures new after) result
 
--- if the store tells its volumes and what is durable, all bytes of each of these volumes are durable
-abbrev pub AreDurable : List (List ℕ × ℕ) → Option (List Volume) → Option (List Volume) → Type 0
-AreDurable starts told durable = AllByRecursion (λ (s : List ℕ × ℕ). IsDurableIn told durable s.0) starts
+-- the sync of the volume of one of these spans failed
+pub record IsUnsynced (spans : List Span) (old new : Shelf) : Type 0 where
+  pub earlier : List Span
+  pub span : Span
+  pub rest : List Span
+  pub split : earlier ++ span ∷ rest ≡ spans
+  pub failed : FailsSync span.volume old new
+
+-- all volumes of the spans are synced, and no call of the store has failed; or the sync of one failed
+abbrev pub SyncsAll : List Span → Shelf → Shelf → Result (Unit {0}) KeeperFault → Type 0
+SyncsAll spans old new (Ok u) = new ≡ old
+SyncsAll spans old new (Err why) = (why ≡ VolumeFails) × IsUnsynced spans old new
+
+-- the same, for a store of volumes before and after
+abbrev pub SyncsAllTo : {W : Type 0} → (W → Option (List Volume)) → (W → Failures) → List Span → W → W → List Vouch → List Vouch → Result (Unit {0}) KeeperFault → Type 0
+SyncsAllTo holds failures spans old new before after result =
+    SyncsAll spans (shelf_in holds failures old before) (shelf_in holds failures new after) result
+
+-- whether one of the spans is on the volume
+abbrev pub is_on_any : List Span → List ℕ → Bool
+is_on_any spans volume = list_any (λ (s : Span). bytes_eq s.volume volume) spans
+
+-- if the store tells its volumes and what is durable, all bytes of the volume of each span are durable
+abbrev pub AreDurable : List Span → Option (List Volume) → Option (List Volume) → Type 0
+AreDurable spans told durable = AllByRecursion (λ (s : Span). IsDurableIn told durable s.volume) spans
 
 -- ---- all of it
 
@@ -160,13 +179,13 @@ pub record IsCutOffFrom (starts : List (List ℕ × ℕ)) (blocks : List (List �
   pub serve : AllByRecursion (IsVouched old.vouches old.volumes) starts
   pub cut_off : IsCutOff blocks (with_entries starts old) new
 
--- all blocks are appended to volumes that have exactly these lengths, and the sync of one of these
--- failed
-pub record IsUnsyncedFrom (starts : List (List ℕ × ℕ)) (blocks : List (List ℕ × List ℕ)) (old new : Shelf) : Type 0 where
+-- all blocks are appended to volumes that have exactly these lengths, and the sync of the volume of
+-- one of these spans failed
+pub record IsUnsyncedFrom (starts : List (List ℕ × ℕ)) (blocks : List (List ℕ × List ℕ)) (spans : List Span) (old new : Shelf) : Type 0 where
   pub serve : AllByRecursion (IsVouched old.vouches old.volumes) starts
   pub middle : Shelf
   pub written : AreWritten blocks (with_entries starts old) middle
-  pub unsynced : IsUnsynced starts middle new
+  pub unsynced : IsUnsynced spans middle new
 
 -- the store failed to return the length of one of them, and nothing is changed
 pub record IsLengthRefused (starts : List (List ℕ × ℕ)) (old new : Shelf) : Type 0 where
@@ -174,23 +193,24 @@ pub record IsLengthRefused (starts : List (List ℕ × ℕ)) (old new : Shelf) :
   pub first : LacksLength old.vouches old.volumes old.failures new.failures starts
 
 -- 44: the store did not return a length, or an append failed, or a sync
-abbrev pub FailsVolume : List (List ℕ × ℕ) → List (List ℕ × List ℕ) → Shelf → Shelf → Type 0
-FailsVolume starts blocks old new = IsLengthRefused starts old new ⊎ (IsCutOffFrom starts blocks old new ⊎ IsUnsyncedFrom starts blocks old new)
+abbrev pub FailsVolume : List (List ℕ × ℕ) → List (List ℕ × List ℕ) → List Span → Shelf → Shelf → Type 0
+FailsVolume starts blocks spans old new =
+    IsLengthRefused starts old new ⊎ (IsCutOffFrom starts blocks old new ⊎ IsUnsyncedFrom starts blocks spans old new)
 
 -- Out of memory and 43 come before the first append.
-abbrev pub WritesBlocks : List (List ℕ × ℕ) → List (List ℕ × List ℕ) → Shelf → Shelf → Result (Unit {0}) KeeperFault → Type 0
-WritesBlocks starts blocks old new (Ok u) = AreWrittenFrom starts blocks old new
-WritesBlocks starts blocks old new (Err Memory) = IsKept old new
-WritesBlocks starts blocks old new (Err RetiredVolume) = IsKept old new × IsRetired old.vouches old.volumes starts
-WritesBlocks starts blocks old new (Err VolumeFails) = FailsVolume starts blocks old new
-WritesBlocks starts blocks old new (Err DuplicateJob) = ⊥
-WritesBlocks starts blocks old new (Err DuplicateSession) = ⊥
-WritesBlocks starts blocks old new (Err BadRow) = ⊥
-WritesBlocks starts blocks old new (Err Store) = ⊥
-WritesBlocks starts blocks old new (Err StoredNotPublished) = ⊥
-WritesBlocks starts blocks old new (Err BadCatalogue) = ⊥
+abbrev pub WritesBlocks : List (List ℕ × ℕ) → List (List ℕ × List ℕ) → List Span → Shelf → Shelf → Result (Unit {0}) KeeperFault → Type 0
+WritesBlocks starts blocks spans old new (Ok u) = AreWrittenFrom starts blocks old new
+WritesBlocks starts blocks spans old new (Err Memory) = IsKept old new
+WritesBlocks starts blocks spans old new (Err RetiredVolume) = IsKept old new × IsRetired old.vouches old.volumes starts
+WritesBlocks starts blocks spans old new (Err VolumeFails) = FailsVolume starts blocks spans old new
+WritesBlocks starts blocks spans old new (Err DuplicateJob) = ⊥
+WritesBlocks starts blocks spans old new (Err DuplicateSession) = ⊥
+WritesBlocks starts blocks spans old new (Err BadRow) = ⊥
+WritesBlocks starts blocks spans old new (Err Store) = ⊥
+WritesBlocks starts blocks spans old new (Err StoredNotPublished) = ⊥
+WritesBlocks starts blocks spans old new (Err BadCatalogue) = ⊥
 
 -- the same, for a store of volumes before and after
-abbrev pub WritesBlocksTo : {W : Type 0} → (W → Option (List Volume)) → (W → Failures) → List (List ℕ × ℕ) → List (List ℕ × List ℕ) → W → W → List Vouch → List Vouch → Result (Unit {0}) KeeperFault → Type 0
-WritesBlocksTo holds failures starts blocks old new before after result =
-    WritesBlocks starts blocks (shelf_in holds failures old before) (shelf_in holds failures new after) result
+abbrev pub WritesBlocksTo : {W : Type 0} → (W → Option (List Volume)) → (W → Failures) → List (List ℕ × ℕ) → List (List ℕ × List ℕ) → List Span → W → W → List Vouch → List Vouch → Result (Unit {0}) KeeperFault → Type 0
+WritesBlocksTo holds failures starts blocks spans old new before after result =
+    WritesBlocks starts blocks spans (shelf_in holds failures old before) (shelf_in holds failures new after) result

@@ -5,15 +5,16 @@ ghost use Rattle.br_keeper.specs.Sessions.{AllKnow};
 ghost use Rattle.br_keeper.specs.Listing.{KnowsStored};
 ghost use Rattle.br_keeper.specs.Vouching.{vouched};
 ghost use Rattle.br_keeper.specs.Keeping.{IsNew, RepublishesKept, jobs_of, shelf_of};
-ghost use Rattle.br_keeper.specs.Committing.{Commits, IsNotMade, Stores};
+ghost use Rattle.br_keeper.specs.Writing.{AreDurable};
+ghost use Rattle.br_keeper.specs.Committing.{IsNotMade};
 ghost use Rattle.br_keeper.specs.Holding.{HoldsJob, OutlastsCrash, StandsIfHeld, StandsOn};
-ghost use Rattle.br_keeper.specs.Outcomes.{AppendsFrontAndRetires, AreDurableAt, IfSynced, IsEarly, OnlyAppends, Refuses, StoresAndPublishes, StoresUnpublished, backing};
-ghost use Rattle.br_keeper.specs.Outcomes.{lasting};
+ghost use Rattle.br_keeper.specs.Outcomes.{AppendsFrontAndRetires, CommitsDurably, IsEarly, OnlyAppends, Refuses, StoresAndPublishes, StoresDurably, StoresUnpublished};
+ghost use Rattle.br_keeper.specs.Outcomes.{backing, lasting};
 ghost use Rattle.br_keeper.specs.declared.fault.KeeperFault.TheVariants.{Store, StoredNotPublished, Volume};
 
 use crate::appending::write_blocks;
 use crate::fault::KeeperFault;
-use crate::job_store::JobStore;
+use crate::job_store::{JobStore, JobStoreFault};
 use crate::prepared::{Prepared, prepare};
 use crate::sessions::{Receipt, Session};
 use crate::stored_jobs::Listing;
@@ -44,6 +45,20 @@ impl<C: JobStore, W: VolumeStore> Model for Keeper<C, W> {
     ghost coded = { keeping_code C.code W.code (Prim.hlevel codes) };
 
     ghost view = { λ k. record { catalogue = k.catalogue; volumes = k.volumes; vouches = k.vouches.items; list = k.listing } };
+}
+
+/// Inserts the rows of a job, whose blocks are durable: all bytes of the volumes of its spans.
+fn insert<C: JobStore, W: VolumeStore>(
+    catalogue: &mut C,
+    volumes: &W,
+    rows: &JobRows,
+) -> Result<(), JobStoreFault>
+    requires durable { AreDurable rows.now.spans (W.holds volumes.now) (W.durable volumes.now) }
+    ensures inserted { OnOk result (C.inserts rows.now catalogue.old catalogue.new) }
+    ensures refused { OnErr result (C.refuses rows.now catalogue.old catalogue.new) }
+{
+    let _ = volumes;
+    catalogue.insert_job(rows)
 }
 
 impl<C: JobStore + Drop, W: VolumeStore + Drop> Keeper<C, W> {
@@ -99,7 +114,7 @@ impl<C: JobStore, W: VolumeStore> Keeper<C, W> {
 
     /// Commits a job: writes its session to the volumes, makes these durable, inserts its rows into
     /// the catalogue, and publishes them. Returns the receipt. Spans begin at the vouched lengths.
-    /// Each block is one append. The volume of each place is synced, if it exists.
+    /// Each block is one append. Each volume that gets a block is synced, once.
     ///
     /// A job that waits to be published is published first.
     ///
@@ -114,7 +129,8 @@ impl<C: JobStore, W: VolumeStore> Keeper<C, W> {
     ///   the volume has another length than the vouched one.
     /// - `Volume` if the store fails at a volume of the places. At a length nothing is changed. At an
     ///   append the blocks before it are on the volumes, and the first of its bytes may be. At a
-    ///   sync all blocks are. The volume whose append or sync failed is retired.
+    ///   sync all blocks are. The volume whose append or sync failed is retired. Nothing is tried
+    ///   again: with a receipt, `Store` and `StoredNotPublished` no call of the store has failed.
     /// - `Store` if the catalogue fails. All blocks are appended and durable.
     /// - `StoredNotPublished` if memory runs out for the publishing. All blocks are appended and
     ///   durable, and the catalogue has the job.
@@ -133,12 +149,11 @@ impl<C: JobStore, W: VolumeStore> Keeper<C, W> {
 
     /// Writes the session of a job to the volumes, makes these durable, and inserts the job's rows
     /// into the catalogue. Returns the rows.
-    #[tactic(auto, using(crate::proofs::OutlastingLaws::not_prepared, crate::proofs::OutlastingLaws::not_synced, crate::proofs::OutlastingLaws::durable_places, br_volume::proofs::SyncLaws::lasts_itself))]
+    #[tactic(auto, using(br_volume::proofs::SyncLaws::lasts_itself))]
     fn store(&mut self, job: &SavedJob) -> Result<JobRows, KeeperFault>
-        ensures job { Stores C.inserts C.refuses (shelf_of W.holds W.failures) job.now self.old self.new result }
+        ensures job { StoresDurably (lasting C.JobStore W.VolumeStore) job.now self.old self.new result }
         ensures list { self.new.list ≡ self.old.list }
         ensures lasts { Lasts (W.durable self.old.volumes) (W.durable self.new.volumes) }
-        ensures durable { IfSynced result (AreDurableAt job.now (W.holds self.new.volumes) (W.durable self.new.volumes)) }
     {
         let Prepared {
             rows,
@@ -149,10 +164,11 @@ impl<C: JobStore, W: VolumeStore> Keeper<C, W> {
             self.alloc,
             &mut self.volumes,
             &mut self.vouches,
+            &rows,
             &starts,
             &blocks,
         )?;
-        match self.catalogue.insert_job(&rows) {
+        match insert(&mut self.catalogue, &self.volumes, &rows) {
             Ok(()) => Ok(rows),
             Err(_) => Err(KeeperFault::Store),
         }
@@ -161,9 +177,8 @@ impl<C: JobStore, W: VolumeStore> Keeper<C, W> {
     /// Commits a job.
     #[tactic(auto, using(br_volume::proofs::SyncLaws::lasts_itself))]
     fn commit_saved<R: Wait>(&mut self, rt: &R, job: &SavedJob) -> Result<Receipt, KeeperFault>
-        ensures commits { Commits C.inserts C.refuses (shelf_of W.holds W.failures) job.now self.old self.new result }
+        ensures commits { CommitsDurably (lasting C.JobStore W.VolumeStore) job.now self.old self.new result }
         ensures lasts { Lasts (W.durable self.old.volumes) (W.durable self.new.volumes) }
-        ensures durable { IfSynced result (AreDurableAt job.now (W.holds self.new.volumes) (W.durable self.new.volumes)) }
     {
         self.listing.publish(rt)?;
         let rows = self.store(job)?;

@@ -1,5 +1,6 @@
 pub mod RangeLaws
 pub mod PartLaws
+pub mod RunLaws
 pub mod SetLaws
 pub mod NameLaws
 pub mod FileLaws

@@ -9,31 +9,32 @@ use Rattle.br_model.specs.Name.{is_volume_name}
 use Rattle.br_model.specs.Job.{Span, is_span, are_rows, JobRows}
 use Rattle.br_model.proofs.GroupLaws.{rows_say}
 use Rattle.br_model.proofs.ListLaws.{all_pass, of_each}
-use Rattle.br_plan.specs.Parts.{with_number}
+use Rattle.br_plan.specs.Parts.{with_run}
 
-one_index : (i : ℕ) → 1 ≤ i → i < 2 ^ 31 → is_range FileIndex (record { low = i; high = i }) ≡ true
-one_index i low high = grind (arith, nat_tests)
+one_range : (low high : ℕ) → 1 ≤ low → low ≤ high → high < 2 ^ 31 → is_range FileIndex (record { low = low; high = high }) ≡ true
+one_range low high some le small = grind (arith, nat_tests)
 
-wider : (low high i : ℕ) → (leb 1 low && leb low high && leb high (2 ^ 31 - 1)) ≡ true → high + 1 ≡ i → i < 2 ^ 31 → (leb 1 low && leb low i && leb i (2 ^ 31 - 1)) ≡ true
-wider low high i e next small = grind (arith, nat_tests)
+wider : (first last low high : ℕ) → (leb 1 first && leb first last && leb last (2 ^ 31 - 1)) ≡ true → last + 1 ≡ low → low ≤ high → high < 2 ^ 31
+    → (leb 1 first && leb first high && leb high (2 ^ 31 - 1)) ≡ true
+wider first last low high e next le small = grind (arith, nat_tests)
 
--- ranges that an index may be given, with an index after them
-pub with_number_valid : (rs : List Range) (i : ℕ) → 1 ≤ i → i < 2 ^ 31 → list_all (is_range FileIndex) rs ≡ true → list_all (is_range FileIndex) (with_number rs i) ≡ true
-with_number_valid [] i low high e = and_from (is_range FileIndex (record { low = i; high = i })) true (one_index i low high) refl
-with_number_valid (r ∷ []) i low high e = go (eqb (r.high + 1) i) refl
+-- ranges that an index may be given, with a range after them
+pub with_run_valid : (rs : List Range) (low high : ℕ) → 1 ≤ low → low ≤ high → high < 2 ^ 31 → list_all (is_range FileIndex) rs ≡ true → list_all (is_range FileIndex) (with_run rs low high) ≡ true
+with_run_valid [] low high some le small e = and_from (is_range FileIndex (record { low = low; high = high })) true (one_range low high some le small) refl
+with_run_valid (r ∷ []) low high some le small e = go (eqb (r.high + 1) low) refl
   where
     first : is_range FileIndex r ≡ true
     first = (and_parts (is_range FileIndex r) true e).0
 
-    go : (b : Bool) → eqb (r.high + 1) i ≡ b
-        → list_all (is_range FileIndex) (cond b (record { low = r.low; high = i } ∷ []) (r ∷ record { low = i; high = i } ∷ [])) ≡ true
-    go true is = and_from (is_range FileIndex (record { low = r.low; high = i })) true (wider r.low r.high i first (eqb-true (r.high + 1) i is) high) refl
+    go : (b : Bool) → eqb (r.high + 1) low ≡ b
+        → list_all (is_range FileIndex) (cond b (record { low = r.low; high = high } ∷ []) (r ∷ record { low = low; high = high } ∷ [])) ≡ true
+    go true is = and_from (is_range FileIndex (record { low = r.low; high = high })) true (wider r.low r.high low high first (eqb-true (r.high + 1) low is) le small) refl
     go false is =
-        and_from (is_range FileIndex r) (is_range FileIndex (record { low = i; high = i }) && true) first
-        (and_from (is_range FileIndex (record { low = i; high = i })) true (one_index i low high) refl)
-with_number_valid (r ∷ s ∷ rs) i low high e =
+        and_from (is_range FileIndex r) (is_range FileIndex (record { low = low; high = high }) && true) first
+        (and_from (is_range FileIndex (record { low = low; high = high })) true (one_range low high some le small) refl)
+with_run_valid (r ∷ s ∷ rs) low high some le small e =
     let p = and_parts (is_range FileIndex r) (list_all (is_range FileIndex) (s ∷ rs)) e in
-    and_from (is_range FileIndex r) (list_all (is_range FileIndex) (with_number (s ∷ rs) i)) p.0 (with_number_valid (s ∷ rs) i low high p.1)
+    and_from (is_range FileIndex r) (list_all (is_range FileIndex) (with_run (s ∷ rs) low high)) p.0 (with_run_valid (s ∷ rs) low high some le small p.1)
 
 -- ---- groups
 

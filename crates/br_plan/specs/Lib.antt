@@ -1,6 +1,7 @@
 pub mod Fault
 pub mod Selected
 pub mod Parts
+pub mod Runs
 pub mod Means
 pub mod Asked
 pub mod Moment

@@ -51,8 +51,12 @@ groups_of_job files j = flat_map (groups_of_span files j) j.spans
 abbrev pub groups_of_jobs : List FileOf → List JobRows → List Group
 groups_of_jobs files jobs = flat_map (groups_of_job files) jobs
 
--- ranges with a number added at the end, to the last range if it is adjacent
+-- ranges with one more at the end, which joins the last one if it is adjacent
+abbrev pub with_run : List Range → ℕ → ℕ → List Range
+with_run [] low high = record { low = low; high = high } ∷ []
+with_run (r ∷ []) low high = if r.high + 1 == low then record { low = r.low; high = high } ∷ [] else r ∷ record { low = low; high = high } ∷ []
+with_run (r ∷ s ∷ rs) low high = r ∷ with_run (s ∷ rs) low high
+
+-- the same for one number
 abbrev pub with_number : List Range → ℕ → List Range
-with_number [] i = record { low = i; high = i } ∷ []
-with_number (r ∷ []) i = if r.high + 1 == i then record { low = r.low; high = i } ∷ [] else r ∷ record { low = i; high = i } ∷ []
-with_number (r ∷ s ∷ rs) i = r ∷ with_number (s ∷ rs) i
+with_number rs i = with_run rs i i

@@ -7,6 +7,7 @@
 #![tactic(auto)]
 
 mod fault;
+mod index_runs;
 mod job_selection;
 mod moment;
 mod naming;

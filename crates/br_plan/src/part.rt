@@ -1,7 +1,8 @@
-ghost use Rattle.std.specs.Prelude.{◌≡◌, not, map, filter, IfOk};
+ghost use Rattle.std.specs.Prelude.{◌≡◌, not, map, filter, take, drop, IfOk};
 ghost use Rattle.br_view.specs.Shown.{shown_pair};
 ghost use Rattle.br_plan.specs.Selected.{file_of};
 ghost use Rattle.br_plan.specs.Parts.{Rise, AreFiles, is_before, is_up_to, is_within};
+ghost use Rattle.br_plan.specs.Runs.{AreRuns};
 
 use br_session::Span;
 use br_tree::Shown;
@@ -43,26 +44,69 @@ fn reaches_to(file: FileOf, job: JobId, last: u32) -> bool
     file.0 < job || file.0 == job && file.1.get() <= last
 }
 
-/// Returns the files from the job's file with this index on.
-fn from_first(files: &[FileOf], job: JobId, first: u32) -> &[FileOf]
-    requires { Rise files.now }
-    ensures { result.now ≡ filter (λ f. not (is_before job first f)) files.now }
+/// Files in order of job and index, and for each the number of files from it on whose indexes
+/// follow one another.
+#[derive(Clone, Copy)]
+pub(crate) struct FileRuns<'f> {
+    pub(crate) files: &'f [FileOf],
+    pub(crate) runs: &'f [usize],
+}
+
+/// Returns numbers without the first ones.
+fn without_first(numbers: &[usize], count: usize) -> &[usize]
+    ensures { result.now ≡ drop count numbers.now }
 {
-    &files[files.partition_point(|file| precedes(*file, job, first))..]
+    &numbers[count.min(numbers.len())..]
+}
+
+/// Returns the first numbers, `count` of them, or all if these are fewer.
+fn first_of(numbers: &[usize], count: usize) -> &[usize]
+    ensures { result.now ≡ take count numbers.now }
+{
+    match numbers.get(..count) {
+        None => numbers,
+        Some(front) => front,
+    }
+}
+
+/// Returns the files from the job's file with this index on.
+fn from_first<'f>(all: FileRuns<'f>, job: JobId, first: u32) -> FileRuns<'f>
+    requires rise { Rise all.files.now }
+    requires runs { AreRuns all.files.now all.runs.now }
+    ensures files { result.files.now ≡ filter (λ f. not (is_before job first f)) all.entry.files.now }
+    ensures runs { AreRuns result.files.now result.runs.now }
+{
+    let place = all
+        .files
+        .partition_point(|file| precedes(*file, job, first));
+    FileRuns {
+        files: &all.files[place..],
+        runs: without_first(all.runs, place),
+    }
 }
 
 /// Returns the files up to the job's file with this index.
-fn up_to_last(files: &[FileOf], job: JobId, last: u32) -> &[FileOf]
-    requires { Rise files.now }
-    ensures { result.now ≡ filter (is_up_to job last) files.now }
+fn up_to_last<'f>(all: FileRuns<'f>, job: JobId, last: u32) -> FileRuns<'f>
+    requires rise { Rise all.files.now }
+    requires runs { AreRuns all.files.now all.runs.now }
+    ensures files { result.files.now ≡ filter (is_up_to job last) all.entry.files.now }
+    ensures runs { AreRuns result.files.now result.runs.now }
 {
-    &files[..files.partition_point(|file| reaches_to(*file, job, last))]
+    let place = all
+        .files
+        .partition_point(|file| reaches_to(*file, job, last));
+    FileRuns {
+        files: &all.files[..place],
+        runs: first_of(all.runs, place),
+    }
 }
 
 /// Returns the files of the job that have a part in the span.
-pub(crate) fn part_of<'f>(files: &'f [FileOf], job: JobId, span: &Span) -> &'f [FileOf]
-    requires { Rise files.now }
-    ensures { result.now ≡ filter (is_within job span.now) files.now }
+pub(crate) fn part_of<'f>(all: FileRuns<'f>, job: JobId, span: &Span) -> FileRuns<'f>
+    requires rise { Rise all.files.now }
+    requires runs { AreRuns all.files.now all.runs.now }
+    ensures files { result.files.now ≡ filter (is_within job span.now) all.entry.files.now }
+    ensures runs { AreRuns result.files.now result.runs.now }
 {
-    up_to_last(from_first(files, job, span.first), job, span.last)
+    up_to_last(from_first(all, job, span.first), job, span.last)
 }

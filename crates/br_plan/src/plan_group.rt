@@ -5,8 +5,10 @@ ghost use Rattle.br_model.specs.BootstrapText.{is_range, is_group};
 ghost use Rattle.br_model.specs.Job.{is_span};
 ghost use Rattle.br_model.specs.Plan as model;
 ghost use Rattle.br_plan.specs.Parts.{Rise, indexes_of, groups_of_span, groups_of_job, groups_of_jobs};
+ghost use Rattle.br_plan.specs.Runs.{AreRuns};
 
-use crate::part::{FileOf, part_of};
+use crate::index_runs::runs_of;
+use crate::part::{FileOf, FileRuns, part_of};
 use crate::ranges::ranges_of;
 use br_bsr::{Group, Range};
 use br_history::JobRows;
@@ -41,9 +43,15 @@ fn bytes_of(alloc: Global, span: &Span) -> Result<Vec<Range>, AllocError>
 }
 
 /// Returns the group of a span for these files of the job.
-fn group_of(alloc: Global, job: &JobRows, span: &Span, part: &[FileOf]) -> Result<Group, AllocError>
-    requires { is_span span.now ≡ true }
-    ensures same { IfOk result (λ group. group ≡ model.span_group job.now.row.session span.now (indexes_of part.now)) }
+fn group_of(
+    alloc: Global,
+    job: &JobRows,
+    span: &Span,
+    part: FileRuns<'_>,
+) -> Result<Group, AllocError>
+    requires span { is_span span.now ≡ true }
+    requires runs { AreRuns part.files.now part.runs.now }
+    ensures same { IfOk result (λ group. group ≡ model.span_group job.now.row.session span.now (indexes_of part.entry.files.now)) }
     ensures valid { IfOk result (λ group. is_group group ≡ true) }
 {
     // The name is valid because of its type.
@@ -53,25 +61,26 @@ fn group_of(alloc: Global, job: &JobRows, span: &Span, part: &[FileOf]) -> Resul
     group.session_ids = one_number(alloc, session.id)?;
     group.session_times = one_number(alloc, session.time)?;
     group.addrs = bytes_of(alloc, span)?;
-    group.indexes = ranges_of(alloc, part)?;
+    group.indexes = ranges_of(alloc, part.files, part.runs)?;
     Ok(group)
 }
 
 /// Adds a group for a span of a job, if a file has a part in it.
 fn add_span(
     groups: &mut Vec<Group>,
-    files: &[FileOf],
+    files: FileRuns<'_>,
     job: &JobRows,
     span: &Span,
 ) -> Result<(), AllocError>
-    requires rise { Rise files.now }
+    requires rise { Rise files.files.now }
+    requires runs { AreRuns files.files.now files.runs.now }
     requires span { is_span span.now ≡ true }
     requires groups { list_all is_group groups.old.items ≡ true }
-    ensures more { OnOk result (groups.new.items ≡ groups.old.items ++ groups_of_span files.now job.now span.now) }
+    ensures more { OnOk result (groups.new.items ≡ groups.old.items ++ groups_of_span files.entry.files.now job.now span.now) }
     ensures valid { OnOk result (list_all is_group groups.new.items ≡ true) }
 {
     let part = part_of(files, job.row().id, span);
-    if !part.is_empty() {
+    if !part.files.is_empty() {
         let alloc = *groups.allocator();
         groups.push(group_of(alloc, job, span, part)?)?;
     }
@@ -79,10 +88,11 @@ fn add_span(
 }
 
 /// Adds a group for each span of a job in which a file has a part.
-fn add_job(groups: &mut Vec<Group>, files: &[FileOf], job: &JobRows) -> Result<(), AllocError>
-    requires rise { Rise files.now }
+fn add_job(groups: &mut Vec<Group>, files: FileRuns<'_>, job: &JobRows) -> Result<(), AllocError>
+    requires rise { Rise files.files.now }
+    requires runs { AreRuns files.files.now files.runs.now }
     requires groups { list_all is_group groups.old.items ≡ true }
-    ensures more { OnOk result (groups.new.items ≡ groups.old.items ++ groups_of_job files.now job.now) }
+    ensures more { OnOk result (groups.new.items ≡ groups.old.items ++ groups_of_job files.entry.files.now job.now) }
     ensures valid { OnOk result (list_all is_group groups.new.items ≡ true) }
 {
     for span in job.spans() {
@@ -92,6 +102,25 @@ fn add_job(groups: &mut Vec<Group>, files: &[FileOf], job: &JobRows) -> Result<(
 }
 
 /// Returns a group for each span of the jobs in which one of the files has a part.
+fn groups_by(
+    alloc: Global,
+    files: FileRuns<'_>,
+    jobs: &[&JobRows],
+) -> Result<Vec<Group>, AllocError>
+    requires rise { Rise files.files.now }
+    requires runs { AreRuns files.files.now files.runs.now }
+    ensures same { IfOk result (λ groups. groups.items ≡ groups_of_jobs files.entry.files.now (map (λ j. j.now) jobs.now)) }
+    ensures valid { IfOk result (λ groups. list_all is_group groups.items ≡ true) }
+{
+    let mut groups = Vec::new(alloc);
+    for job in jobs {
+        add_job(&mut groups, files, job)?;
+    }
+    Ok(groups)
+}
+
+/// Returns a group for each span of the jobs in which one of the files has a part. Beside a search
+/// for each span the time is that for the ranges of the groups.
 pub(crate) fn groups_of(
     alloc: Global,
     files: &[FileOf],
@@ -101,9 +130,6 @@ pub(crate) fn groups_of(
     ensures same { IfOk result (λ groups. groups.items ≡ groups_of_jobs files.now (map (λ j. j.now) jobs.now)) }
     ensures valid { IfOk result (λ groups. list_all is_group groups.items ≡ true) }
 {
-    let mut groups = Vec::new(alloc);
-    for job in jobs {
-        add_job(&mut groups, files, job)?;
-    }
-    Ok(groups)
+    let runs = runs_of(alloc, files)?;
+    groups_by(alloc, FileRuns { files, runs: &runs }, jobs)
 }

@@ -10,7 +10,7 @@ use Rattle.sqlite.specs.Start.{FindsIn}
 use Rattle.sqlite.specs.Files.{Finds, file_state}
 use Rattle.sqlite.specs.State.{HasCleanDisk}
 use Rattle.br_store.specs.Scene.{Scene}
-use Rattle.br_store.specs.Look.{alone, ShowsFile}
+use Rattle.br_store.specs.Look.{together, ShowsFiles}
 
 -- an empty file has the bytes that were written to its start
 pub held_all : (file bytes : List ℕ) → (0 < length bytes → Holds file 0 bytes) → Torn 0 (length bytes) [] file → file ≡ bytes
@@ -21,17 +21,18 @@ held_all file (x ∷ xs) holds torn =
     ext_get_or 0 file (x ∷ xs) (omega (arith, torn.no_longer, held.within)) (λ i few.
     subst (λ k. slice_index file k ≡ slice_index (x ∷ xs) i) (omega arith) (held.each i (omega (arith, few, torn.no_longer))))
 
--- an open finds what the database file holds if its log is empty
-pub found_in : {D : Type 0} {g : Ghosts D} (files : Files D) (c : Held (FileStore D g)) (bytes : List ℕ)
-    → g.seen files.log ≡ [] → g.seen files.db ≡ bytes → Finds files c → FindsIn (alone bytes) (file_state c)
-found_in files c bytes log db found =
-    subst₂ (λ left held. FindsIn (record { log = left; db = held }) (file_state c)) log db (record { holds = found.holds; reads = found.reads })
+-- an open finds what the two files hold together
+pub found_in : {D : Type 0} {g : Ghosts D} (files : Files D) (c : Held (FileStore D g)) (bytes log : List ℕ)
+    → g.seen files.db ≡ bytes → g.seen files.log ≡ log → Finds files c → FindsIn (together bytes log) (file_state c)
+found_in files c bytes log db left found =
+    subst₂ (λ xs ys. FindsIn (together xs ys) (file_state c)) db left (record { holds = found.holds; reads = found.reads })
 
--- what was found in a copy is what the file holds
-pub shown : {D E : Type 0} {g : Ghosts D} (told : Option Scene) (bytes : List ℕ) (result : Result (Held (FileStore D g)) E)
-    → IfSome told (λ scene. bytes ≡ scene.bytes)
-    → IfOk result (λ c. HasCleanDisk (file_state c) → FindsIn (alone bytes) (file_state c))
-    → IfOk result (λ c. HasCleanDisk (file_state c) → ShowsFile told (file_state c))
-shown told bytes (Err e) same finds = tt
-shown None bytes (Ok c) same finds = λ clean. tt
-shown (Some scene) bytes (Ok c) same finds = λ clean. subst (λ xs. FindsIn (alone xs) (file_state c)) same (finds clean)
+-- what was found in copies is what the files hold
+pub shown : {D E : Type 0} {g : Ghosts D} (told : Option Scene) (bytes log : List ℕ) (result : Result (Held (FileStore D g)) E)
+    → IfSome told (λ scene. bytes ≡ scene.bytes) → IfSome told (λ scene. log ≡ scene.log)
+    → IfOk result (λ c. HasCleanDisk (file_state c) → FindsIn (together bytes log) (file_state c))
+    → IfOk result (λ c. HasCleanDisk (file_state c) → ShowsFiles told (file_state c))
+shown told bytes log (Err e) first second finds = tt
+shown None bytes log (Ok c) first second finds = λ clean. tt
+shown (Some scene) bytes log (Ok c) first second finds =
+    λ clean. subst₂ (λ xs ys. FindsIn (together xs ys) (file_state c)) first second (finds clean)

@@ -9,23 +9,23 @@
 //! of a keeper name: the effect of an insertion on the database, and the databases that a
 //! crash may leave.
 //!
-//! `look` copies the file of a catalogue into memory and opens the copy as a database, so that
-//! nothing is written or made. `Sight` is what it needs of the system: `HostSight` is that of the
-//! system, as thin as it can be, and `MemSight` one over memory, for tests. `fold` ends the use of
-//! a catalogue that was written to: its file alone has what was committed. `emptied` is the last
-//! step of it.
+//! `look` copies the file of a catalogue and its log into memory and opens the copies as a
+//! database, so that nothing is written or made, also while another program commits. `Sight` is
+//! what it needs of the system: `HostSight` is that of the system, as thin as it can be, and
+//! `MemSight` one over memory, for tests. `fold` ends the use of a catalogue that was written to:
+//! its file alone has what was committed. `emptied` is the last step of it.
 #![tactic(auto)]
 
 mod crash_laws;
 mod job_writing;
 mod laws;
-mod look_beside;
 mod look_fault;
 mod look_file;
 mod look_folding;
 mod look_host;
 mod look_mem;
 mod look_sight;
+mod look_source;
 mod name_numbers;
 mod opening;
 mod queries;
@@ -36,13 +36,13 @@ mod version;
 
 pub use br_catalog_rows::{StoreFault, inserted_jobs_load};
 pub use crash_laws::{commits_outlive_crashes, crashes_leave_found_jobs, refused_jobs_are_whole};
-pub use look_beside::Beside;
 pub use look_fault::LookFault;
 pub use look_file::look;
 pub use look_folding::{emptied, fold};
-pub use look_host::{HostSight, SystemFile};
+pub use look_host::{HostSight, SystemFiles};
 pub use look_mem::MemSight;
-pub use look_sight::{Sight, Stamp};
+pub use look_sight::{FileTime, Sight, Stamp};
+pub use look_source::Source;
 pub use opening::{create, reopened};
 pub use store::Store;
 pub use stored_jobs::StoredJobs;

@@ -10,7 +10,7 @@ use thiserror::Error;
 pub enum LookFault {
     #[error("out of memory")]
     Memory,
-    #[error("another program writes to the file, or left a log or a journal beside it")]
+    #[error("another program writes to the file, left a journal beside it, or has emptied it")]
     InUse,
     #[error("the file can't be read")]
     Unreadable,

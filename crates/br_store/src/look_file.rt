@@ -1,22 +1,21 @@
-//! A catalogue's file, copied into memory and shown from there.
-ghost use Rattle.std.specs.Prelude.{◌≡◌, ◌<◌, length, Some, IfOk, IfSome, IsTrue, OnOk};
+//! A catalogue's file and its log, copied into memory and shown from there.
+ghost use Rattle.std.specs.Prelude.{◌≡◌, ◌<◌, ◌≤◌, length, Some, IfOk, IfSome, IsTrue, OnOk};
 ghost use Rattle.sqlite_disk.specs.Memory.{memory_bytes, memory_is_usable};
 ghost use Rattle.sqlite.specs.Files.{file_state, IsOpened};
 ghost use Rattle.sqlite.specs.Held.{IsNew};
 ghost use Rattle.sqlite.specs.State.{HasCleanDisk};
-ghost use Rattle.sqlite.specs.Start.{FindsIn};
-ghost use Rattle.br_store.specs.Scene.{IsFront};
-ghost use Rattle.br_store.specs.Look.{IsSettled, ShowsFile, alone};
+ghost use Rattle.br_store.specs.Scene.{IsFront, bytes_of};
+ghost use Rattle.br_store.specs.Look.{HasFile, IsPresent, IsSettled, ShowsFiles, ShowsIn, together};
 
-use crate::look_beside::Beside;
 use crate::look_fault::LookFault;
 use crate::look_sight::{Sight, Stamp};
+use crate::look_source::Source;
 use sqlite::{Connection, Error as SqlError, ErrorCode, FileStore, Files, Options};
 use sqlite_disk::{Disk, Memory};
 use std::alloc::Global;
 
-/// The number of times that a file in use is tried.
-const TRIES: u32 = 50;
+/// The number of times that files in use are tried.
+const TRIES: u32 = 100;
 
 /// The number of bytes that one read asks for.
 const STEP: usize = 1 << 16;
@@ -24,31 +23,58 @@ const STEP: usize = 1 << 16;
 /// The first bytes of every database that is not empty.
 const MAGIC: &[u8] = b"SQLite format 3\0";
 
-/// Refuses a file if something beside it may contain changes that are not in the file.
-fn check_beside<O: Sight>(sight: &mut O, file: &O::File) -> Result<(), LookFault>
+/// The same while a database is made: the first byte is written last.
+const UNFINISHED: &[u8] = b"\0QLite format 3\0";
+
+/// The length of a log's header, which is another one as soon as the log begins anew.
+const HEADER: usize = 32;
+
+/// The length of the header of a log and of that of its first page.
+const LOG_ROOM: usize = HEADER + 24;
+
+/// By which it is known that neither the file was changed nor its log begun anew.
+#[derive(Clone, Copy, PartialEq)]
+struct Mark {
+    stamp: Stamp,
+    /// The first bytes of the log, before zeros if it has fewer.
+    header: [u8; HEADER],
+    /// The number of these bytes.
+    len: usize,
+}
+
+/// The bytes of a catalogue's file and of its log.
+#[derive(Drop)]
+struct Copied {
+    bytes: Vec<u8>,
+    log: Vec<u8>,
+}
+
+/// Refuses a file beside a journal that has to be rolled back.
+fn check_journal<O: Sight>(sight: &mut O) -> Result<(), LookFault>
     ensures settled { OnOk result (IsSettled (O.told sight.old)) }
     ensures same { O.told sight.new ≡ O.told sight.old }
 {
-    match sight.beside(file)? {
-        Beside::Nothing => Ok(()),
-        Beside::Log | Beside::Journal => Err(LookFault::InUse),
+    match sight.has_journal()? {
+        false => Ok(()),
+        true => Err(LookFault::InUse),
     }
 }
 
-/// Appends some bytes of the file to those that were read before.
+/// Appends some bytes of a file to those that were read before.
 #[tactic(auto, using(crate::proofs::LookParts::more_read))]
 fn read_more<O: Sight>(
     sight: &mut O,
-    file: &O::File,
+    files: &O::Files,
+    source: Source,
     part: &mut [u8],
     bytes: &mut Vec<u8>,
 ) -> Result<(), LookFault>
-    requires front { IfSome (O.told sight.old) (λ scene. IsFront scene.bytes bytes.old.items) }
-    ensures front { OnOk result (IfSome (O.told sight.old) (λ scene. IsFront scene.bytes bytes.new.items)) }
+    requires front { IfSome (O.told sight.old) (λ scene. IsFront (bytes_of source scene) bytes.old.items) }
+    ensures front { OnOk result (IfSome (O.told sight.old) (λ scene. IsFront (bytes_of source scene) bytes.new.items)) }
     ensures more { OnOk result (length bytes.old.items < length bytes.new.items) }
     ensures same { O.told sight.new ≡ O.told sight.old }
 {
-    let n = sight.read_at(file, part, bytes.len())?;
+    let n = sight.read_at(files, source, part, bytes.len())?;
     if n == 0 {
         // The file has become shorter.
         return Err(LookFault::InUse);
@@ -60,30 +86,156 @@ fn read_more<O: Sight>(
 /// Returns whether a file that begins like this may be a database. An empty file is one without
 /// tables, and a file of one byte counts as the beginning of a database.
 fn may_be_database(bytes: &[u8]) -> bool {
-    bytes.len() < 2 || bytes.starts_with(MAGIC)
+    bytes.len() < 2 || bytes.starts_with(MAGIC) || bytes.starts_with(UNFINISHED)
 }
 
-/// Reads the whole file, which has this length. Stops after the first part of a file that is
-/// not a database.
+/// Returns whether one of the files may begin like this.
+fn may_begin(source: Source, bytes: &[u8]) -> bool {
+    match source {
+        Source::Main => may_be_database(bytes),
+        Source::Log => true,
+    }
+}
+
+/// Reads one of the files, which has this length. Stops after the first part of a file that is not a
+/// database.
 fn read_all<O: Sight>(
     alloc: Global,
     sight: &mut O,
-    file: &O::File,
+    files: &O::Files,
+    source: Source,
     len: u64,
 ) -> Result<Vec<u8>, LookFault>
-    requires len { IfSome (O.told sight.old) (λ scene. len ≡ length scene.bytes) }
-    ensures read { IfOk result (λ bytes. IfSome (O.told sight.old) (λ scene. bytes.items ≡ scene.bytes)) }
+    requires len { IfSome (O.told sight.old) (λ scene. len ≡ length (bytes_of source scene)) }
+    ensures read { IfOk result (λ bytes. IfSome (O.told sight.old) (λ scene. bytes.items ≡ bytes_of source scene)) }
     ensures same { O.told sight.new ≡ O.told sight.old }
 {
     let mut part = vec![in alloc; 0; STEP]?;
     let mut bytes = Vec::new(alloc);
     while (bytes.len() as u64) < len {
-        read_more(sight, file, &mut part, &mut bytes)?;
-        if !may_be_database(&bytes) {
+        read_more(sight, files, source, &mut part, &mut bytes)?;
+        if !may_begin(source, &bytes) {
             return Err(LookFault::Database(SqlError::SqliteFailure(ErrorCode::NotADatabase)));
         }
     }
     Ok(bytes)
+}
+
+/// Returns the mark of this moment. Its part of the log is the older one.
+fn mark_of<O: Sight>(sight: &mut O, files: &O::Files) -> Result<Mark, LookFault>
+    ensures len { IfOk result (λ mark. IfSome (O.told sight.old) (λ scene. mark.stamp.len ≡ length scene.bytes)) }
+    ensures fits { IfOk result (λ mark. mark.len ≤ 32) }
+    ensures same { O.told sight.new ≡ O.told sight.old }
+{
+    let mut header = [0; HEADER];
+    let len = sight.read_at(files, Source::Log, &mut header, 0)?;
+    let stamp = sight.stamp(files)?;
+    Ok(Mark { stamp, header, len })
+}
+
+/// Refuses files that have another mark by now.
+fn check_mark<O: Sight>(sight: &mut O, files: &O::Files, mark: &Mark) -> Result<(), LookFault>
+    ensures same { O.told sight.new ≡ O.told sight.old }
+{
+    if mark_of(sight, files)? == *mark {
+        Ok(())
+    } else {
+        Err(LookFault::InUse)
+    }
+}
+
+/// Reads the log, up to the length that it has at this moment. What was put into the file before has
+/// to be in this log, so the file is read first, and the log may not be begun anew until it is read.
+fn read_log<O: Sight>(
+    alloc: Global,
+    sight: &mut O,
+    files: &O::Files,
+    mark: &Mark,
+) -> Result<Vec<u8>, LookFault>
+    requires fits { mark.now.len ≤ 32 }
+    ensures read { IfOk result (λ log. IfSome (O.told sight.old) (λ scene. log.items ≡ scene.log)) }
+    ensures same { O.told sight.new ≡ O.told sight.old }
+{
+    check_mark(sight, files, mark)?;
+    let len = sight.log_len(files)?;
+    let log = read_all(alloc, sight, files, Source::Log, len)?;
+    check_mark(sight, files, mark)?;
+    if log.starts_with(&mark.header[..mark.len]) {
+        Ok(log)
+    } else {
+        Err(LookFault::InUse)
+    }
+}
+
+/// Refuses an empty file beside a log with room for a page: what is in such a log would not be shown.
+fn check_present(copied: &Copied) -> Result<(), LookFault>
+    ensures present { OnOk result (HasFile copied.now.bytes.items copied.now.log.items) }
+{
+    if copied.bytes.is_empty() && copied.log.len() >= LOG_ROOM {
+        return Err(LookFault::InUse);
+    }
+    Ok(())
+}
+
+/// Reads both files, unless another program changes them.
+fn read_both<O: Sight>(alloc: Global, sight: &mut O, files: &O::Files) -> Result<Copied, LookFault>
+    ensures bytes { IfOk result (λ copied. IfSome (O.told sight.old) (λ scene. copied.bytes.items ≡ scene.bytes)) }
+    ensures log { IfOk result (λ copied. IfSome (O.told sight.old) (λ scene. copied.log.items ≡ scene.log)) }
+    ensures same { O.told sight.new ≡ O.told sight.old }
+{
+    let mark = mark_of(sight, files)?;
+    let bytes = read_all(alloc, sight, files, Source::Main, mark.stamp.len)?;
+    let log = read_log(alloc, sight, files, &mark)?;
+    Ok(Copied { bytes, log })
+}
+
+/// Reads both files, unless the file is gone.
+fn read_present<O: Sight>(
+    alloc: Global,
+    sight: &mut O,
+    files: &O::Files,
+) -> Result<Copied, LookFault>
+    ensures bytes { IfOk result (λ copied. IfSome (O.told sight.old) (λ scene. copied.bytes.items ≡ scene.bytes)) }
+    ensures log { IfOk result (λ copied. IfSome (O.told sight.old) (λ scene. copied.log.items ≡ scene.log)) }
+    ensures present { OnOk result (IsPresent (O.told sight.old)) }
+    ensures same { O.told sight.new ≡ O.told sight.old }
+{
+    let copied = read_both(alloc, sight, files)?;
+    check_present(&copied)?;
+    Ok(copied)
+}
+
+/// Reads both files, unless another program writes to them or a journal lies beside them.
+fn read_once<O: Sight>(alloc: Global, sight: &mut O) -> Result<Copied, LookFault>
+    ensures bytes { IfOk result (λ copied. IfSome (O.told sight.old) (λ scene. copied.bytes.items ≡ scene.bytes)) }
+    ensures log { IfOk result (λ copied. IfSome (O.told sight.old) (λ scene. copied.log.items ≡ scene.log)) }
+    ensures settled { OnOk result (IsSettled (O.told sight.old)) }
+    ensures present { OnOk result (IsPresent (O.told sight.old)) }
+    ensures same { O.told sight.new ≡ O.told sight.old }
+{
+    let files = sight.open()?;
+    check_journal(sight)?;
+    let copied = read_present(alloc, sight, &files)?;
+    // Another program may have begun to write in the meantime.
+    check_journal(sight)?;
+    Ok(copied)
+}
+
+/// Reads both files. Waits while another program writes to them, but not longer than for 100 moments.
+fn read_settled<O: Sight>(alloc: Global, sight: &mut O) -> Result<Copied, LookFault>
+    ensures bytes { IfOk result (λ copied. IfSome (O.told sight.old) (λ scene. copied.bytes.items ≡ scene.bytes)) }
+    ensures log { IfOk result (λ copied. IfSome (O.told sight.old) (λ scene. copied.log.items ≡ scene.log)) }
+    ensures settled { OnOk result (IsSettled (O.told sight.old)) }
+    ensures present { OnOk result (IsPresent (O.told sight.old)) }
+    ensures same { O.told sight.new ≡ O.told sight.old }
+{
+    for _ in 0..TRIES {
+        match read_once(alloc, sight) {
+            Err(LookFault::InUse) => sight.wait()?,
+            answer => return answer,
+        }
+    }
+    Err(LookFault::InUse)
 }
 
 /// Returns a file in memory with these bytes.
@@ -99,50 +251,30 @@ fn in_memory(alloc: Global, bytes: &[u8]) -> Result<Memory, LookFault>
     }
 }
 
-/// Reads the file, unless another program writes to it or something lies beside it.
-fn read_once<O: Sight>(alloc: Global, sight: &mut O) -> Result<Vec<u8>, LookFault>
-    ensures read { IfOk result (λ bytes. IfSome (O.told sight.old) (λ scene. bytes.items ≡ scene.bytes)) }
-    ensures settled { OnOk result (IsSettled (O.told sight.old)) }
-    ensures same { O.told sight.new ≡ O.told sight.old }
+/// Returns the two files in memory.
+fn files_in_memory(alloc: Global, copied: &Copied) -> Result<Files<Memory>, LookFault>
+    ensures db { IfOk result (λ files. memory_bytes files.db ≡ copied.now.bytes.items) }
+    ensures log { IfOk result (λ files. memory_bytes files.log ≡ copied.now.log.items) }
+    ensures db_usable { IfOk result (λ files. IsTrue (memory_is_usable files.db)) }
+    ensures log_usable { IfOk result (λ files. IsTrue (memory_is_usable files.log)) }
 {
-    let file = sight.open()?;
-    check_beside(sight, &file)?;
-    let stamp = sight.stamp(&file)?;
-    let bytes = read_all(alloc, sight, &file, stamp.len)?;
-    // Another program may have written to it in the meantime.
-    check_beside(sight, &file)?;
-    if sight.stamp(&file)? == stamp {
-        Ok(bytes)
-    } else {
-        Err(LookFault::InUse)
-    }
+    Ok(Files {
+        log: in_memory(alloc, &copied.log)?,
+        db: in_memory(alloc, &copied.bytes)?,
+    })
 }
 
-/// Reads the file. Waits while another program writes to it, but not longer than for 50 moments.
-fn read_settled<O: Sight>(alloc: Global, sight: &mut O) -> Result<Vec<u8>, LookFault>
-    ensures read { IfOk result (λ bytes. IfSome (O.told sight.old) (λ scene. bytes.items ≡ scene.bytes)) }
-    ensures settled { OnOk result (IsSettled (O.told sight.old)) }
-    ensures same { O.told sight.new ≡ O.told sight.old }
-{
-    for _ in 0..TRIES {
-        match read_once(alloc, sight) {
-            Err(LookFault::InUse) => sight.wait(),
-            answer => return answer,
-        }
-    }
-    Err(LookFault::InUse)
-}
-
-/// Opens the bytes of a database's file that has no log.
-fn open_copy(alloc: Global, bytes: &[u8]) -> Result<Connection<FileStore<Memory>>, LookFault>
-    ensures shows { IfOk result (λ conn. HasCleanDisk (file_state conn) → FindsIn (alone bytes.now) (file_state conn)) }
+/// Opens the database in two files in memory.
+fn open_files(
+    alloc: Global,
+    files: Files<Memory>,
+) -> Result<Connection<FileStore<Memory>>, LookFault>
+    requires db { IsTrue (memory_is_usable files.db) }
+    requires log { IsTrue (memory_is_usable files.log) }
+    ensures shows { IfOk result (λ conn. ShowsIn (together (memory_bytes files.db) (memory_bytes files.log)) (file_state conn)) }
     ensures opened { IfOk result (λ conn. HasCleanDisk (file_state conn) → IsOpened conn) }
     ensures fresh { IfOk result IsNew }
 {
-    let files = Files {
-        log: Memory::new(alloc),
-        db: in_memory(alloc, bytes)?,
-    };
     match Connection::open_files(alloc, files, Options::new(1)) {
         Ok(conn) => Ok(conn),
         Err((SqlError::SqliteFailure(ErrorCode::OutOfMemory), _)) => Err(LookFault::Memory),
@@ -150,12 +282,25 @@ fn open_copy(alloc: Global, bytes: &[u8]) -> Result<Connection<FileStore<Memory>
     }
 }
 
-/// Shows the database in a catalogue's file. Nothing is written to the file, and none is made.
+/// Opens the database that the copies of a file and its log hold together.
+fn open_copies(alloc: Global, copied: Copied) -> Result<Connection<FileStore<Memory>>, LookFault>
+    ensures shows { IfOk result (λ conn. ShowsIn (together copied.bytes.items copied.log.items) (file_state conn)) }
+    ensures opened { IfOk result (λ conn. HasCleanDisk (file_state conn) → IsOpened conn) }
+    ensures fresh { IfOk result IsNew }
+{
+    let files = files_in_memory(alloc, &copied)?;
+    // What was read is not needed while the database is opened, which takes as much again.
+    drop(copied);
+    open_files(alloc, files)
+}
+
+/// Shows the database in a catalogue's file and its log. Nothing is written to a file, and none is made.
 ///
 /// # Errors
 ///
-/// `InUse` if another program still writes to the file after 50 moments, or a log or a journal lies
-/// beside it; `Unreadable` if the file does not exist or can't be read; `Database` if it is not a
+/// `InUse` if another program still changes the files after 100 moments or as long as the sight waits,
+/// if a journal lies beside them that has to be rolled back, or the file is empty and its log has a page;
+/// `Unreadable` if the file does not exist, or one of the two can't be read; `Database` if they are no
 /// sound database.
 pub fn look<O: Sight>(
     alloc: Global,
@@ -163,10 +308,11 @@ pub fn look<O: Sight>(
 ) -> Result<Connection<FileStore<Memory>>, LookFault>
     ensures same { O.told sight.new ≡ O.told sight.old }
     ensures settled { OnOk result (IsSettled (O.told sight.old)) }
-    ensures shows { IfOk result (λ conn. HasCleanDisk (file_state conn) → ShowsFile (O.told sight.old) (file_state conn)) }
+    ensures present { OnOk result (IsPresent (O.told sight.old)) }
+    ensures shows { IfOk result (λ conn. HasCleanDisk (file_state conn) → ShowsFiles (O.told sight.old) (file_state conn)) }
     ensures opened { IfOk result (λ conn. HasCleanDisk (file_state conn) → IsOpened conn) }
     ensures fresh { IfOk result IsNew }
 {
-    let bytes = read_settled(alloc, sight)?;
-    open_copy(alloc, &bytes)
+    let copied = read_settled(alloc, sight)?;
+    open_copies(alloc, copied)
 }

@@ -1,15 +1,17 @@
 ghost use Rattle.std.specs.Prelude.{◌≡◌, ◌≤◌, length, take, drop};
 
-use crate::look_beside::Beside;
 use crate::look_fault::LookFault;
-use crate::look_sight::{Sight, Stamp};
+use crate::look_sight::{FileTime, Sight, Stamp};
+use crate::look_source::Source;
 
-/// A file in memory to be looked at, for tests. Another program may write to it for some moments.
+/// A file and its log in memory to be looked at, for tests. Another program may write to them for some
+/// moments.
 #[derive(Drop)]
 pub struct MemSight {
     bytes: Vec<u8>,
-    beside: Beside,
-    /// The number of moments for which another program writes to the file.
+    log: Vec<u8>,
+    has_journal: bool,
+    /// The number of moments for which another program writes to the files.
     busy: u32,
     /// The number of moments that were waited for.
     waited: u32,
@@ -18,22 +20,24 @@ pub struct MemSight {
 }
 
 impl MemSight {
-    /// Returns a file with these bytes, and what lies beside it.
-    pub fn new(bytes: Vec<u8>, beside: Beside) -> MemSight
+    /// Returns a file with these bytes, a log, and whether a journal lies beside them.
+    pub fn new(bytes: Vec<u8>, log: Vec<u8>, has_journal: bool) -> MemSight
         ensures bytes { result.bytes ≡ bytes }
-        ensures beside { result.beside ≡ beside }
+        ensures log { result.log ≡ log }
+        ensures journal { result.has_journal ≡ has_journal }
         ensures free { (result.busy ≡ 0) × (result.waited ≡ 0) }
     {
         MemSight {
             bytes,
-            beside,
+            log,
+            has_journal,
             busy: 0,
             waited: 0,
             at_most: usize::MAX,
         }
     }
 
-    /// Makes another program write to the file for this number of moments.
+    /// Makes another program write to the files for this number of moments.
     pub fn busy_for(mut self, moments: u32) -> MemSight
         ensures { result ≡ record self { busy = moments } }
     {
@@ -72,12 +76,18 @@ fn copy_part(bytes: &[u8], buf: &mut [u8], at: usize, at_most: usize) -> usize
     n
 }
 
+/// The time of all changes of a file in memory.
+const BEGINNING: FileTime = FileTime {
+    seconds: 0,
+    nanos: 0,
+};
+
 impl Sight for MemSight {
     ghost use Rattle.std.specs.Prelude.{Some};
 
-    type File = ();
+    type Files = ();
 
-    ghost told = { λ s. Some (record { bytes = s.bytes.items; beside = s.beside }) };
+    ghost told = { λ s. Some (record { bytes = s.bytes.items; log = s.log.items; has_journal = s.has_journal }) };
 
     fn open(&mut self) -> Result<(), LookFault> {
         if self.busy > self.waited {
@@ -86,24 +96,39 @@ impl Sight for MemSight {
         Ok(())
     }
 
-    fn beside(&mut self, _file: &()) -> Result<Beside, LookFault> {
-        Ok(self.beside)
+    fn has_journal(&mut self) -> Result<bool, LookFault> {
+        Ok(self.has_journal)
     }
 
-    fn stamp(&mut self, _file: &()) -> Result<Stamp, LookFault> {
+    fn stamp(&mut self, _files: &()) -> Result<Stamp, LookFault> {
         Ok(Stamp {
             len: self.bytes.len() as u64,
+            device: 0,
             inode: 0,
-            time: 0,
-            nanos: 0,
+            written: BEGINNING,
+            changed: BEGINNING,
         })
     }
 
-    fn read_at(&mut self, _file: &(), buf: &mut [u8], at: usize) -> Result<usize, LookFault> {
-        Ok(copy_part(&self.bytes, buf, at, self.at_most))
+    fn log_len(&mut self, _files: &()) -> Result<u64, LookFault> {
+        Ok(self.log.len() as u64)
     }
 
-    fn wait(&mut self) {
+    fn read_at(
+        &mut self,
+        _files: &(),
+        source: Source,
+        buf: &mut [u8],
+        at: usize,
+    ) -> Result<usize, LookFault> {
+        match source {
+            Source::Main => Ok(copy_part(&self.bytes, buf, at, self.at_most)),
+            Source::Log => Ok(copy_part(&self.log, buf, at, self.at_most)),
+        }
+    }
+
+    fn wait(&mut self) -> Result<(), LookFault> {
         self.waited = self.waited.saturating_add(1);
+        Ok(())
     }
 }

@@ -3,7 +3,7 @@ use br_history::{History, JobRows};
 use br_keeper::{JobStore, JobStoreFault};
 use std::alloc::Global;
 
-/// Jobs in memory. No contract says anything about them.
+/// Jobs in memory.
 #[derive(Drop)]
 pub(crate) struct MemJobs {
     pub(crate) alloc: Global,
@@ -11,11 +11,13 @@ pub(crate) struct MemJobs {
 }
 
 impl JobStore for MemJobs {
-    ghost inserts = { λ rows old new. Unit {0} };
+    ghost use Rattle.std.specs.Prelude.{◌≡◌, ◌++◌, ◌∷◌, [], IfOk};
 
-    ghost refuses = { λ rows old new. Unit {0} };
+    ghost inserts = { λ rows old new. new.history ≡ old.history ++ rows ∷ [] };
 
-    ghost loads = { λ old new result. Unit {0} };
+    ghost refuses = { λ rows old new. new.history ≡ old.history };
+
+    ghost loads = { λ old new result. (new.history ≡ old.history) × IfOk result (λ jobs. jobs ≡ old.history) };
 
     /// Appends a copy of a job.
     fn insert_job(&mut self, rows: &JobRows) -> Result<(), JobStoreFault> {

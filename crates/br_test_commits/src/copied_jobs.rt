@@ -4,7 +4,7 @@ use br_keeper::{JobStore, JobStoreFault};
 use br_volume::MemStore;
 use std::alloc::Global;
 
-/// Jobs in memory. No contract says anything about them.
+/// Jobs in memory.
 #[derive(Drop)]
 pub(crate) struct CopiedJobs {
     alloc: Global,
@@ -24,11 +24,13 @@ pub(crate) fn new_kept(alloc: Global) -> Kept {
 }
 
 impl JobStore for CopiedJobs {
-    ghost inserts = { λ rows old new. Unit {0} };
+    ghost use Rattle.std.specs.Prelude.{◌≡◌, ◌++◌, ◌∷◌, [], IfOk};
 
-    ghost refuses = { λ rows old new. Unit {0} };
+    ghost inserts = { λ rows old new. new.history ≡ old.history ++ rows ∷ [] };
 
-    ghost loads = { λ old new result. Unit {0} };
+    ghost refuses = { λ rows old new. new.history ≡ old.history };
+
+    ghost loads = { λ old new result. (new.history ≡ old.history) × IfOk result (λ jobs. jobs ≡ old.history) };
 
     /// Appends a copy of a job.
     fn insert_job(&mut self, rows: &JobRows) -> Result<(), JobStoreFault> {

@@ -15,6 +15,7 @@ use std::io;
 /// What follows the commit of the first job, one after another.
 const ONE_BY_ONE: &[Deed] = &[
     Deed::Republish,
+    Deed::Republish,
     Deed::Commit(FIRST),
     Deed::Append,
     Deed::Commit(SECOND),
@@ -25,9 +26,10 @@ const ONE_BY_ONE: &[Deed] = &[
 /// What another keeper does with what is left. It begins with the fourth job.
 const AGAIN: &[Deed] = &[Deed::Commit(THIRD), Deed::Commit(SECOND), Deed::Republish];
 
-/// Only commits: each publishes the job that waits.
+/// Commits, each of which publishes the job that waits.
 const AT_ONCE: &[Deed] = &[
     Deed::Commit(FIRST),
+    Deed::Republish,
     Deed::Commit(SECOND),
     Deed::Commit(THIRD),
     Deed::Republish,

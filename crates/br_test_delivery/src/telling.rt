@@ -3,7 +3,7 @@
 use crate::files;
 use br_bsr::write_bootstrap;
 use br_cli_common::{
-    push_with_words, reason_of_file, reason_of_folder, reason_of_new_file, reason_of_read,
+    Target, push_with_words, reason_of_file, reason_of_folder, reason_of_new_file, reason_of_read,
     refused_number,
 };
 use br_cli_progress::{Faults, Gauge, Log, Standing, WatchedWriter, push_key, seconds_left};
@@ -64,7 +64,7 @@ fn push_passed(
     gauge: &Gauge<'_>,
     writer: &WatchedWriter<'_, '_, Vec<u8>>,
 ) -> io::Result<()> {
-    gauge.note_put(1);
+    gauge.note_taken(1, 0);
     gauge.tell_faults(writer.faults())?;
     gauge.tell_end()?;
     let keys = match writer.keys() {
@@ -88,7 +88,7 @@ fn pass(
     len: usize,
     lines: &[u8],
 ) -> io::Result<()> {
-    let gauge = Gauge::new(rt, "", false).with_log(Some(Log::open(rt, log)?));
+    let gauge = Gauge::new(rt, "", Target::Nowhere, false).with_log(Some(Log::open(rt, log)?));
     let mut writer = WatchedWriter::new(Vec::new(rt.alloc()), &gauge);
     write_parts(&mut writer, len, lines)?;
     push_passed(text, rt.alloc(), &gauge, &writer)

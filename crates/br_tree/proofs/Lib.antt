@@ -14,3 +14,4 @@ pub mod SignLaws
 pub mod PaintLaws
 pub mod SumLaws
 pub mod CutLaws
+pub mod AroundLaws

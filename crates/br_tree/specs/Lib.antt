@@ -6,3 +6,4 @@ pub mod Lists
 pub mod Change
 pub mod Sums
 pub mod Cut
+pub mod MeantRun

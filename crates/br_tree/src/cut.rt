@@ -1,8 +1,11 @@
-ghost use Rattle.std.specs.Prelude.{◌≡◌, true};
+ghost use Rattle.std.specs.Prelude.{◌≡◌, ◌++◌, true};
+ghost use Rattle.std.specs.Cmp.Lexicographic.{slice_cmp};
+ghost use Rattle.std.specs.Ordering.{nat_cmp, is_lt};
+ghost use Rattle.br_model.specs.Console.{begins_with};
 ghost use Rattle.br_tree.specs.Cut.{passes, IsFalling, IsCut};
 ghost use Rattle.br_tree.specs.Walk.{seen_paths, AllPassing, NonePassing};
 
-use crate::shown_paths::{Shown, child_name};
+use crate::shown_paths::{Shown, child_name, rest_of};
 use br_types::Path;
 
 /// A test that the first paths of a list pass, and no later one.
@@ -12,8 +15,30 @@ pub(crate) enum Test<'t> {
     Before(&'t [u8]),
     /// The path begins with a text.
     Begins(&'t [u8]),
+    /// The path comes before that of a directory with a text after it, in byte order.
+    BeforeIn(&'t [u8], &'t [u8]),
+    /// The path begins with that of a directory and a text after it.
+    BeginsIn(&'t [u8], &'t [u8]),
     /// The path is that of a child of a directory, or below it.
     OfChild(&'t [u8], &'t [u8]),
+}
+
+/// Returns whether a path comes before that of a directory with a text after it, in byte order.
+fn comes_before(path: &[u8], directory: &[u8], text: &[u8]) -> bool
+    ensures { result ≡ is_lt (slice_cmp nat_cmp path.now (directory.now ++ text.now)) }
+{
+    if path.starts_with(directory) {
+        rest_of(directory, path).cmp(text).is_lt()
+    } else {
+        path.cmp(directory).is_lt()
+    }
+}
+
+/// Returns whether a path begins with that of a directory and a text after it.
+fn begins_in(path: &[u8], directory: &[u8], text: &[u8]) -> bool
+    ensures { result ≡ begins_with path.now (directory.now ++ text.now) }
+{
+    path.starts_with(directory) && rest_of(directory, path).starts_with(text)
 }
 
 /// Returns whether a path passes.
@@ -23,6 +48,8 @@ fn does_pass(test: Test<'_>, path: &Path) -> bool
     match test {
         Test::Before(text) => path.bytes().cmp(text).is_lt(),
         Test::Begins(text) => path.bytes().starts_with(text),
+        Test::BeforeIn(directory, text) => comes_before(path.bytes(), directory, text),
+        Test::BeginsIn(directory, text) => begins_in(path.bytes(), directory, text),
         Test::OfChild(directory, name) => child_name(directory, path.bytes()) == name,
     }
 }

@@ -9,6 +9,7 @@ mod child_names;
 mod cut;
 mod flags;
 mod list;
+mod meant_run;
 mod path_spans;
 mod pattern;
 mod shown_paths;

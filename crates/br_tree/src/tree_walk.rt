@@ -6,8 +6,9 @@ ghost use Rattle.br_tree.specs.Walk.{seen_paths, is_picked, is_own, reach};
 ghost use Rattle.br_tree.specs.Walk.{set_where, changes, AllPassing, NonePassing, IsStep, AreSorted};
 
 use crate::flags::Flags;
+use crate::meant_run::meant_run;
 use crate::pattern::{bare_name, matches as fits};
-use crate::shown_paths::{Shown, child_len, child_name, not_before, rest_of, run_of};
+use crate::shown_paths::{Shown, child_len, child_name, not_before, rest_of};
 use br_types::is_directory_path;
 
 /// Returns whether a path in a directory, of a child of this name, is the own path of a child that
@@ -125,7 +126,7 @@ pub(crate) fn set_matching(
     ensures flags { flags.new ≡ set_where (is_picked deep directory.now pattern.now) value (seen_paths entries.now) flags.old }
     ensures answer { result ≡ changes (is_picked deep directory.now pattern.now) value (seen_paths entries.now) flags.old }
 {
-    let (first, last) = run_of(entries, directory);
+    let (first, last) = meant_run(entries, directory, pattern);
     let mut place = first;
     let mut count = 0;
     let mut found = false;

@@ -1,5 +1,5 @@
 -- What stays durable of volumes, and what a sync makes durable.
-use Rattle.std.proofs.Common.{◌≡◌, ℕ, Bool, true, false, ◌&&◌, ◌||◌, Option, Some, None, Result, Ok, Err, OnOk, List, [], ◌∷◌, ◌++◌, refl, ap, sym, subst, ◌∙◌}
+use Rattle.std.proofs.Common.{◌≡◌, ℕ, Bool, true, false, ◌||◌, Option, Some, None, Result, Ok, Err, OnOk, List, [], ◌∷◌, ◌++◌, refl, ap, sym, subst, ◌∙◌}
 use Rattle.std.specs.Prelude.{◌==◌}
 use Rattle.std.specs.List.{list_all, list_any}
 use Rattle.std.proofs.lemmas.Bool.{and_parts, both_ways, eqb-true}
@@ -8,11 +8,11 @@ use Rattle.br_model.specs.Name.{is_name, is_name_byte, is_volume_name}
 use Rattle.br_model.specs.Volume.{Volume, volume_bytes, Extends}
 use Rattle.br_fs.specs.Tree.{Tree}
 use Rattle.br_fs.specs.Calls.{IsNoFile}
-use Rattle.br_fs.specs.Durable.{IsDurable, Lasts, NamesFiles, SyncsFile}
+use Rattle.br_fs.specs.Durable.{IsNamed, Lasts, NamesFiles, SyncsFile}
 use Rattle.br_fs.proofs.AppendLaws.{appended_is}
 -- of two calls one after the other
 pub use Rattle.br_fs.proofs.DurableLaws.{lasts_itself, lasts_more, lasts_same}
-use Rattle.br_volume.specs.Folder.{IsPlain, IsSyncedAt, IsSyncedBelow, IsSyncedIn, durable_told, file_path, volumes_in, volumes_told}
+use Rattle.br_volume.specs.Folder.{AreNamedIf, IsNamedAt, IsPlain, IsSyncedAt, IsSyncedBelow, durable_told, file_path}
 use Rattle.br_volume.specs.MemStore.{with_appended}
 use Rattle.br_volume.specs.Store.{IsAppendedInPart, IsDurableIn}
 use Rattle.br_volume.proofs.AppendLaws.{appended_extends, part_extends}
@@ -52,38 +52,75 @@ volume_is_plain name is = all_plain name (and_parts _ _ (and_parts _ _ (and_part
 
 -- ---- a folder and a file that are synced
 
-pub both_last : (first second third : Option (List Volume)) → Lasts first second → Lasts second third → Lasts first third
-both_last first second third one two = lasts_more first second third one two
-
 pub lasts_settled : (first second third : Option (List Volume)) → second ≡ first → Lasts second third → Lasts first third
 lasts_settled first second third same is = subst (λ (o : Option (List Volume)). Lasts o third) same is
 
-pub both_synced : (folder path : List ℕ) (first second third : Option Tree) (named synced : Option (List Volume)) → second ≡ first → third ≡ second
-    → NamesFiles folder first named → SyncsFile path second named synced → Lasts named synced → IsSyncedIn folder path third synced
-both_synced folder path first second third named synced same again names syncs lasts name plain is =
-    subst (λ (o : Option Tree). IsSyncedAt path o synced) (sym (again ∙ same))
-    (go first named synced names (subst (λ (o : Option Tree). SyncsFile path o named synced) same syncs) lasts)
+-- the names of a folder that stays as it is
+pub names_same : (folder : List ℕ) (first second : Option Tree) (durable : Option (List Volume)) → second ≡ first → NamesFiles folder first durable
+    → NamesFiles folder second durable
+names_same folder first second durable same names = subst (λ (o : Option Tree). NamesFiles folder o durable) (sym same) names
+
+pub names_if_same : (has_names : Bool) (folder : List ℕ) (first second : Option Tree) (was is : Option (List Volume)) → second ≡ first → is ≡ was
+    → AreNamedIf has_names folder first was → AreNamedIf has_names folder second is
+names_if_same has_names folder first second was is same settled names e =
+    subst (λ (o : Option (List Volume)). NamesFiles folder second o) (sym settled) (names_same folder first second was same (names e))
+
+-- they stay durable
+named_on : (durable later : List Volume) (path : List ℕ) → Extends later durable → IsNamed durable path → IsNamed later path
+named_on durable later path extends named = let more = extends path named.0 named.1 in (named.0 ++ more.0, more.1)
+
+names_on : (folder : List ℕ) (told : Option Tree) (was is : Option (List Volume)) → Lasts was is → NamesFiles folder told was → NamesFiles folder told is
+names_on folder None was is lasts names = tt
+names_on folder (Some tree) was None lasts names = tt
+names_on folder (Some tree) None (Some d) lasts names = absurd lasts
+names_on folder (Some tree) (Some a) (Some d) lasts names = λ name bytes plain found. named_on a d (folder ++ 47 ∷ name) lasts (names name bytes plain found)
+
+pub names_last : {A E : Type 0} (result : Result A E) (folder : List ℕ) (first second : Option Tree) (was is : Option (List Volume)) → second ≡ first
+    → Lasts was is → NamesFiles folder first was → OnOk result (NamesFiles folder second is)
+names_last (Ok x) folder first second was is same lasts names = names_same folder first second is same (names_on folder first was is lasts names)
+names_last (Err e) folder first second was is same lasts names = tt
+
+-- the file of a volume has a name that is durable
+pub volume_named : (folder volume path : List ℕ) (told : Option Tree) (durable : Option (List Volume)) → IsPlain volume → path ≡ file_path folder volume
+    → NamesFiles folder told durable → IsNamedAt path told durable
+volume_named folder volume path told durable plain is names =
+    subst (λ (p : List ℕ). IsNamedAt p told durable) (sym is) (go told durable names)
   where
-    go : (told : Option Tree) (named synced : Option (List Volume)) → NamesFiles folder told named → SyncsFile path told named synced → Lasts named synced
+    go : (told : Option Tree) (durable : Option (List Volume)) → NamesFiles folder told durable → IsNamedAt (file_path folder volume) told durable
+    go None durable names = tt
+    go (Some tree) None names = tt
+    go (Some tree) (Some d) names = λ bytes found. names volume bytes plain found
+
+-- a file whose name is durable
+pub file_synced : (path own : List ℕ) (first second third : Option Tree) (was named synced : Option (List Volume)) → IsNamedAt path first was → second ≡ first
+    → named ≡ was → own ≡ path → third ≡ second → SyncsFile own second named synced → Lasts named synced → IsSyncedAt path third synced
+file_synced path own first second third was named synced is same settled own_is again syncs lasts =
+    subst (λ (o : Option Tree). IsSyncedAt path o synced) (sym (again ∙ same))
+    (go first was synced is
+    (subst (λ (p : List ℕ). SyncsFile p first was synced) own_is
+    (subst (λ (o : Option Tree). SyncsFile own o was synced) same (subst (λ (o : Option (List Volume)). SyncsFile own second o synced) settled syncs)))
+    (subst (λ (o : Option (List Volume)). Lasts o synced) settled lasts))
+  where
+    go : (told : Option Tree) (was synced : Option (List Volume)) → IsNamedAt path told was → SyncsFile path told was synced → Lasts was synced
         → IsSyncedAt path told synced
-    go None named synced names syncs lasts = tt
-    go (Some tree) named None names syncs lasts = tt
-    go (Some tree) None (Some b) names syncs lasts = absurd lasts
-    go (Some tree) (Some a) (Some b) names syncs lasts = λ bytes found.
-        syncs (subst (λ (p : List ℕ). (front : List ℕ) × (volume_bytes a p ≡ Some front)) (sym is)
-        (names name bytes plain (ap (volume_bytes tree.files) (sym is) ∙ found))) bytes found
+    go None was synced is syncs lasts = tt
+    go (Some tree) was None is syncs lasts = tt
+    go (Some tree) None (Some b) is syncs lasts = absurd lasts
+    go (Some tree) (Some a) (Some b) is syncs lasts = λ bytes found. syncs (is bytes found) bytes found
 
 not_found : (o : Option (List ℕ)) (bytes : List ℕ) (P : Type 0) → o ≡ None → o ≡ Some bytes → P
 not_found o bytes P none some = absurd cc
 
 -- a file that is not there
-pub none_synced : (folder path : List ℕ) (told : Option Tree) (durable : Option (List Volume)) → IsNoFile told path → IsSyncedIn folder path told durable
-none_synced folder path told durable none name plain is = go told durable none
-  where
-    go : (told : Option Tree) (durable : Option (List Volume)) → IsNoFile told path → IsSyncedAt path told durable
-    go None durable none = tt
-    go (Some tree) None none = tt
-    go (Some tree) (Some d) none = λ bytes found. not_found (volume_bytes tree.files path) bytes _ none found
+pub none_synced : (path : List ℕ) (told : Option Tree) (durable : Option (List Volume)) → IsNoFile told path → IsSyncedAt path told durable
+none_synced path None durable none = tt
+none_synced path (Some tree) None none = tt
+none_synced path (Some tree) (Some d) none = λ bytes found. not_found (volume_bytes tree.files path) bytes _ none found
+
+-- a number that two calls leave
+pub clean_on : {A E : Type 0} (result : Result A E) (first second third : ℕ) → second ≡ first → OnOk result (third ≡ second) → OnOk result (third ≡ first)
+clean_on (Ok x) first second third one two = two ∙ one
+clean_on (Err e) first second third one two = tt
 
 -- ---- what is durable of a folder is durable of its volumes
 
@@ -103,8 +140,8 @@ synced_one folder volume (Some tree) (Some d) is = λ bytes found.
     let f = is bytes (sym (volume_below folder volume tree.files) ∙ found) in
     (f.0, volume_below folder volume d ∙ f.1)
 
-pub synced_below : {A E : Type 0} (result : Result A E) (folder volume path : List ℕ) (told : Option Tree) (durable : Option (List Volume)) → IsPlain volume
-    → path ≡ file_path folder volume → OnOk result (IsSyncedIn folder path told durable) → OnOk result (IsSyncedBelow folder volume told durable)
-synced_below (Ok x) folder volume path told durable plain is synced =
-    synced_one folder volume told durable (subst (λ (p : List ℕ). IsSyncedAt p told durable) is (synced volume plain is))
-synced_below (Err e) folder volume path told durable plain is synced = tt
+pub synced_below : {A E : Type 0} (result : Result A E) (folder volume path : List ℕ) (told : Option Tree) (durable : Option (List Volume))
+    → path ≡ file_path folder volume → OnOk result (IsSyncedAt path told durable) → OnOk result (IsSyncedBelow folder volume told durable)
+synced_below (Ok x) folder volume path told durable is synced =
+    synced_one folder volume told durable (subst (λ (p : List ℕ). IsSyncedAt p told durable) is synced)
+synced_below (Err e) folder volume path told durable is synced = tt

@@ -1,12 +1,12 @@
 -- Volumes in a folder of a disk.
-use Rattle.std.specs.Prelude.{◌≡◌, ℕ, ◌==◌, false, ◌⊎◌, ◌+◌, ◌<◌, if◌then◌else◌, List, [], ◌∷◌, ◌++◌, length, take, drop, flat_map, bytes_eq, Option, Some, None, option_map, Result, Ok, Err, ⊤}
+use Rattle.std.specs.Prelude.{◌≡◌, ℕ, ◌==◌, Bool, true, false, ◌⊎◌, ◌+◌, ◌<◌, if◌then◌else◌, List, [], ◌∷◌, ◌++◌, length, take, drop, flat_map, bytes_eq, Option, Some, None, option_map, Result, Ok, Err, ⊤}
 use Rattle.std.specs.List.{list_any}
-use Rattle.br_model.specs.Volume.{Volume}
+use Rattle.br_model.specs.Volume.{Volume, volume_bytes}
 use Rattle.br_fs.specs.Tree.{Tree}
-use Rattle.br_fs.specs.Durable.{IsDurable}
+use Rattle.br_fs.specs.Durable.{IsDurable, IsNamed, NamesFiles}
 use Rattle.br_fs.specs.Calls.{Appends, HasFile, IsNothing}
 use Rattle.br_volume.specs.Drive.{bytes_from, bytes_got}
-use Rattle.br_volume.specs.Store.{AppendsTo, AppendsInPartTo, Failures, IsDurableIn}
+use Rattle.br_volume.specs.Store.{AppendsTo, AppendsInPartTo, Failures, IsDurableIn, no_failures}
 use Rattle.br_fs.specs.declared.fault.DiskFault.{DiskFault}
 use Rattle.br_fs.specs.declared.fault.DiskFault.TheVariants as disk
 use Rattle.br_volume.specs.declared.drive.Got.{Got}
@@ -28,13 +28,19 @@ pub record InFolder : Type 0 where
   pub path : List ℕ
   pub failures : ℕ
 
--- a store over a folder: what its disk tells, and what of it is durable; the folder's path, and the
--- failed calls
+-- a store over a folder: what its disk tells, and what of it is durable; the folder's path, the
+-- failed calls, and the number of syncs of the disk that have failed
 pub record StoreInFolder : Type 0 where
   pub told : Option Tree
   pub durable : Option (List Volume)
   pub path : List ℕ
   pub failures : Failures
+  pub failed_syncs : ℕ
+
+-- a store over a folder of a disk, of which no call has failed
+abbrev pub store_over : Option Tree → Option (List Volume) → ℕ → List ℕ → StoreInFolder
+store_over told durable failed_syncs path =
+    record { told = told; durable = durable; path = path; failures = no_failures; failed_syncs = failed_syncs }
 
 -- the path of a volume's file: the folder's, a slash, and the volume's name
 abbrev pub file_path : List ℕ → List ℕ → List ℕ
@@ -58,6 +64,16 @@ volumes_told folder told = option_map (λ (tree : Tree). volumes_in folder tree.
 abbrev pub durable_told : List ℕ → Option (List Volume) → Option (List Volume)
 durable_told folder durable = option_map (volumes_in folder) durable
 
+-- if the disk tells its files and what is durable, a crash leaves a file at the path, if one is there
+abbrev pub IsNamedAt : List ℕ → Option Tree → Option (List Volume) → Type 0
+IsNamedAt path None durable = ⊤
+IsNamedAt path (Some tree) None = ⊤
+IsNamedAt path (Some tree) (Some durable) = (bytes : List ℕ) → volume_bytes tree.files path ≡ Some bytes → IsNamed durable path
+
+-- if this is true, a crash leaves a file for each of the folder
+abbrev pub AreNamedIf : Bool → List ℕ → Option Tree → Option (List Volume) → Type 0
+AreNamedIf has_names folder told durable = has_names ≡ true → NamesFiles folder told durable
+
 -- if the disk tells its files and what is durable, all bytes of the file are durable
 abbrev pub IsSyncedAt : List ℕ → Option Tree → Option (List Volume) → Type 0
 IsSyncedAt path None durable = ⊤
@@ -67,11 +83,6 @@ IsSyncedAt path (Some tree) (Some durable) = IsDurable tree.files durable path
 -- the name has no slash
 abbrev pub IsPlain : List ℕ → Type 0
 IsPlain name = list_any (λ b. b == 47) name ≡ false
-
--- if the path is that of a file of the folder itself, all bytes of the file are durable
-abbrev pub IsSyncedIn : List ℕ → List ℕ → Option Tree → Option (List Volume) → Type 0
-IsSyncedIn folder path told durable =
-    (name : List ℕ) → IsPlain name → path ≡ folder ++ 47 ∷ name → IsSyncedAt path told durable
 
 -- if the disk tells its files and what is durable, all bytes of the volume are durable
 abbrev pub IsSyncedBelow : List ℕ → List ℕ → Option Tree → Option (List Volume) → Type 0

@@ -92,6 +92,7 @@ pub(crate) fn find_file<D: Disk>(disk: &mut D, path: &str) -> Result<u64, DriveF
     ensures missing { result ≡ Err UnknownVolume → IsNoFile (D.told disk.new) path.now }
     ensures same { D.told disk.new ≡ D.told disk.old }
     ensures settled { D.durable disk.new ≡ D.durable disk.old }
+    ensures clean { D.failed_syncs disk.new ≡ D.failed_syncs disk.old }
     ensures free { IsKnownFree (D.steady disk.old) (D.told disk.old) path.now → FindsNone (D.steady disk.new) result }
 {
     match disk.find(path) {

@@ -1,10 +1,11 @@
 //! The store over a folder.
-ghost use Rattle.std.specs.Prelude.{◌≡◌, [], IfErr, IfOk, IfSome, OnOk, OnErr, None, Ok};
+ghost use Rattle.std.specs.Prelude.{◌≡◌, ◌≤◌, [], IfErr, IfOk, IfSome, OnOk, OnErr, None, Ok};
 ghost use Rattle.br_fs.specs.Append.{AppendsInPart};
 ghost use Rattle.br_fs.specs.Calls.{Appends, IsFile, IsNoFile};
-ghost use Rattle.br_fs.specs.Durable.{Lasts};
-ghost use Rattle.br_volume.specs.Store.{IsLengthIn, no_failures};
-ghost use Rattle.br_volume.specs.Folder.{AppendsBelow, AppendsInPartBelow, IsKnownFree, IsReady, IsSyncedBelow, IsSyncedIn, volumes_told};
+ghost use Rattle.br_fs.specs.Durable.{Lasts, NamesFiles};
+ghost use Rattle.br_volume.specs.Store.{FailsOn, IsDurableIn, IsLengthIn};
+ghost use Rattle.br_volume.specs.Folder.{AppendsBelow, AppendsInPartBelow, AreNamedIf, IsKnownFree, IsNamedAt, IsReady, IsSyncedAt, IsSyncedBelow};
+ghost use Rattle.br_volume.specs.Folder.{durable_told, store_over, volumes_told};
 ghost use Rattle.br_volume.specs.declared.fault.DriveFault.TheVariants.{Memory};
 
 use crate::failed_calls::FailedCalls;
@@ -24,6 +25,7 @@ fn open_found<D: Disk>(disk: &mut D, path: &str) -> Result<D::File, DriveFault>
     ensures opened { IfOk result (λ file. D.path_of file ≡ path.now) }
     ensures same { D.told disk.new ≡ D.told disk.old }
     ensures settled { D.durable disk.new ≡ D.durable disk.old }
+    ensures clean { D.failed_syncs disk.new ≡ D.failed_syncs disk.old }
 {
     match disk.open_to_append(path) {
         Ok(file) => Ok(file),
@@ -140,6 +142,7 @@ fn open_if_found<D: Disk>(disk: &mut D, path: &str) -> Result<Option<D::File>, D
     ensures missing { result ≡ Ok None → IsNoFile (D.told disk.new) path.now }
     ensures same { D.told disk.new ≡ D.told disk.old }
     ensures settled { D.durable disk.new ≡ D.durable disk.old }
+    ensures clean { D.failed_syncs disk.new ≡ D.failed_syncs disk.old }
 {
     match find_file(disk, path) {
         Ok(_) => Ok(Some(open_found(disk, path)?)),
@@ -160,6 +163,7 @@ fn found<D: Disk>(
     ensures missing { result ≡ Ok None → IsNoFile (D.told disk.new) path.now }
     ensures same { D.told disk.new ≡ D.told disk.old }
     ensures settled { D.durable disk.new ≡ D.durable disk.old }
+    ensures clean { D.failed_syncs disk.new ≡ D.failed_syncs disk.old }
 {
     match held {
         Some(last) if disk.is_at(&last, path) => Ok(Some(last)),
@@ -167,70 +171,85 @@ fn found<D: Disk>(
     }
 }
 
-/// Makes the names of the folder's files durable, and then the bytes of one of them.
-#[tactic(auto, using(crate::proofs::SyncLaws::both_synced, crate::proofs::SyncLaws::both_last))]
-fn sync_both<D: Disk>(disk: &mut D, folder: &str, file: &D::File) -> Result<(), DriveFault>
-    ensures synced { OnOk result (IsSyncedIn folder.now (D.path_of file.now) (D.told disk.new) (D.durable disk.new)) }
+/// Makes the names of the folder's files durable, unless they are.
+#[tactic(auto, using(crate::proofs::SyncLaws::names_same, crate::proofs::SyncLaws::lasts_itself))]
+fn sync_names<D: Disk>(disk: &mut D, folder: &str, has_names: bool) -> Result<(), DriveFault>
+    requires names { AreNamedIf has_names folder.now (D.told disk.old) (D.durable disk.old) }
+    ensures named { OnOk result (NamesFiles folder.now (D.told disk.new) (D.durable disk.new)) }
     ensures same { D.told disk.new ≡ D.told disk.old }
     ensures lasts { Lasts (D.durable disk.old) (D.durable disk.new) }
+    ensures clean { OnOk result (D.failed_syncs disk.new ≡ D.failed_syncs disk.old) }
 {
-    match disk.sync_folder(folder) {
-        Ok(()) => {}
-        Err(fault) => return Err(fault_of(fault)),
+    if has_names {
+        return Ok(());
     }
-    match disk.sync(file) {
+    match disk.sync_folder(folder) {
         Ok(()) => Ok(()),
         Err(fault) => Err(fault_of(fault)),
     }
 }
 
-/// Makes the file at the path durable, if there is one, and keeps it open.
-#[tactic(auto, using(crate::proofs::SyncLaws::none_synced, crate::proofs::SyncLaws::lasts_settled, crate::proofs::SyncLaws::lasts_same))]
+/// Makes the bytes of the file at the path durable, if there is one, and keeps it open. Its name is
+/// durable.
+#[tactic(auto, using(crate::proofs::SyncLaws::none_synced, crate::proofs::SyncLaws::file_synced, crate::proofs::SyncLaws::lasts_settled, crate::proofs::SyncLaws::lasts_same))]
 fn sync_at_path<D: Disk>(
     disk: &mut D,
     held: &mut Option<D::File>,
-    folder: &str,
     path: &str,
 ) -> Result<(), DriveFault>
-    ensures synced { OnOk result (IsSyncedIn folder.now path.now (D.told disk.new) (D.durable disk.new)) }
+    requires named { IsNamedAt path.now (D.told disk.old) (D.durable disk.old) }
+    ensures synced { OnOk result (IsSyncedAt path.now (D.told disk.new) (D.durable disk.new)) }
     ensures same { D.told disk.new ≡ D.told disk.old }
     ensures lasts { Lasts (D.durable disk.old) (D.durable disk.new) }
+    ensures clean { OnOk result (D.failed_syncs disk.new ≡ D.failed_syncs disk.old) }
 {
     let Some(file) = found(disk, held.take(), path)? else {
         return Ok(());
     };
-    let done = sync_both(disk, folder, &file);
+    let done = disk.sync(&file);
     *held = Some(file);
-    done
+    match done {
+        Ok(()) => Ok(()),
+        Err(fault) => Err(fault_of(fault)),
+    }
 }
 
-/// Makes a volume durable, if it exists.
-#[tactic(auto, using(crate::proofs::SyncLaws::synced_below, crate::proofs::SyncLaws::lasts_same))]
+/// Makes a volume durable, if it exists, and the names of all volumes.
+#[tactic(auto, using(crate::proofs::SyncLaws::volume_named, crate::proofs::SyncLaws::synced_below, crate::proofs::SyncLaws::names_last, crate::proofs::SyncLaws::clean_on, crate::proofs::SyncLaws::lasts_same))]
 fn sync_volume<D: Disk>(
     disk: &mut D,
     held: &mut Option<D::File>,
     folder: &Folder,
     vol: &VolName,
+    has_names: bool,
 ) -> Result<(), DriveFault>
+    requires names { AreNamedIf has_names folder.now (D.told disk.old) (D.durable disk.old) }
     ensures synced { OnOk result (IsSyncedBelow folder.now vol.now (D.told disk.new) (D.durable disk.new)) }
+    ensures named { OnOk result (NamesFiles folder.now (D.told disk.new) (D.durable disk.new)) }
     ensures same { D.told disk.new ≡ D.told disk.old }
     ensures lasts { Lasts (D.durable disk.old) (D.durable disk.new) }
+    ensures clean { OnOk result (D.failed_syncs disk.new ≡ D.failed_syncs disk.old) }
 {
     let path = folder.path_of(vol)?;
-    sync_at_path(disk, held, folder.path(), path.as_str())
+    sync_names(disk, folder.path(), has_names)?;
+    sync_at_path(disk, held, path.as_str())
 }
 
-/// A store over a folder of a disk. It keeps open the file that it appended to last, and no other.
+/// A store over a folder of a disk. It keeps open the file that it appended to or synced last, and
+/// no other.
 #[derive(Drop)]
 pub struct FolderStore<D: Disk + Drop> {
     disk: D,
     folder: Folder,
     held: Option<D::File>,
     failures: FailedCalls,
+    /// Whether the names of the folder's files are durable: the folder was synced, and nothing was
+    /// appended since.
+    has_names: bool,
 }
 
 impl<D: Disk + Drop> Model for FolderStore<D> {
-    ghost use Rattle.br_volume.specs.Folder.{StoreInFolder};
+    ghost use Rattle.br_volume.specs.Folder.{AreNamedIf, StoreInFolder};
 
     ghost Value = { StoreInFolder };
 
@@ -239,7 +258,10 @@ impl<D: Disk + Drop> Model for FolderStore<D> {
       durable = D.durable s.disk;
       path = s.folder;
       failures = s.failures;
+      failed_syncs = D.failed_syncs s.disk;
     } };
+
+    ghost invariant = { λ s. AreNamedIf s.has_names s.folder (D.told s.disk) (D.durable s.disk) };
 }
 
 impl<F: Files + Drop> FolderStore<HostDisk<F>>
@@ -249,7 +271,7 @@ where
     /// Returns a store over the system's folder with this path, which exists already. Opens nothing
     /// yet.
     pub fn new(alloc: Global, files: F, path: &str) -> Result<FolderStore<HostDisk<F>>, AllocError>
-        ensures { IfOk result (λ store. store ≡ record { told = None; durable = None; path = path.now; failures = no_failures }) }
+        ensures { IfOk result (λ store. store ≡ store_over None None 0 path.now) }
     {
         FolderStore::over(alloc, HostDisk::new(alloc, files), path)
     }
@@ -259,13 +281,14 @@ impl<D: Disk + Drop> FolderStore<D> {
     /// Returns a store over the disk's folder with this path, which exists already. Opens nothing
     /// yet.
     pub fn over(alloc: Global, disk: D, path: &str) -> Result<FolderStore<D>, AllocError>
-        ensures { IfOk result (λ store. store ≡ record { told = D.told disk; durable = D.durable disk; path = path.now; failures = no_failures }) }
+        ensures { IfOk result (λ store. store ≡ store_over (D.told disk) (D.durable disk) (D.failed_syncs disk) path.now) }
     {
         Ok(FolderStore {
             disk,
             folder: Folder::new(alloc, path)?,
             held: None,
             failures: FailedCalls::none(),
+            has_names: false,
         })
     }
 
@@ -289,6 +312,7 @@ impl<D: Disk + Drop> VolumeStore for FolderStore<D> {
     /// Appends to the file with the volume's name.
     #[tactic(auto, using(crate::proofs::SyncLaws::lasts_below))]
     fn append(&mut self, vol: &VolName, bytes: &[u8]) -> Result<(), VolumeFault> {
+        self.has_names = false;
         match append_to_volume(&mut self.disk, &mut self.held, &self.folder, vol, bytes) {
             Ok(()) => Ok(()),
             Err(_) => {
@@ -299,6 +323,7 @@ impl<D: Disk + Drop> VolumeStore for FolderStore<D> {
     }
 
     /// Returns the length of the file with the volume's name.
+    #[tactic(auto, using(crate::proofs::SyncLaws::names_if_same))]
     fn length(&mut self, vol: &VolName) -> Result<u64, VolumeFault> {
         match length_of_volume(&mut self.disk, &self.folder, vol) {
             Ok(len) => Ok(len),
@@ -309,12 +334,31 @@ impl<D: Disk + Drop> VolumeStore for FolderStore<D> {
         }
     }
 
-    /// Syncs the folder, and then the file with the volume's name.
+    /// Syncs the folder if anything was appended since it was synced, and then the file with the
+    /// volume's name.
     #[tactic(auto, using(crate::proofs::SyncLaws::lasts_below))]
-    fn sync(&mut self, vol: &VolName) -> Result<(), VolumeFault> {
-        match sync_volume(&mut self.disk, &mut self.held, &self.folder, vol) {
-            Ok(()) => Ok(()),
+    fn sync(&mut self, vol: &VolName) -> Result<(), VolumeFault>
+        ensures synced { OnOk result (IsDurableIn (volumes_told self.new.path self.new.told) (durable_told self.new.path self.new.durable) vol.now) }
+        ensures same { volumes_told self.new.path self.new.told ≡ volumes_told self.old.path self.old.told }
+        ensures lasts { Lasts (durable_told self.old.path self.old.durable) (durable_told self.new.path self.new.durable) }
+        ensures counted { self.old.failures.number ≤ self.new.failures.number }
+        ensures clean { OnOk result (self.new.failures ≡ self.old.failures) }
+        ensures failed { OnErr result (FailsOn vol.now self.old.failures self.new.failures) }
+        ensures once { OnOk result (self.new.failed_syncs ≡ self.old.failed_syncs) }
+    {
+        match sync_volume(
+            &mut self.disk,
+            &mut self.held,
+            &self.folder,
+            vol,
+            self.has_names,
+        ) {
+            Ok(()) => {
+                self.has_names = true;
+                Ok(())
+            }
             Err(_) => {
+                self.has_names = false;
                 self.failures = self.failures.and(vol);
                 Err(VolumeFault::Failed)
             }

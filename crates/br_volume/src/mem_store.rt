@@ -194,6 +194,7 @@ impl VolumeStore for MemStore {
         ensures refused { OnErr result (AppendsInPartTo vol.now bytes.now (Some self.old.volumes) (Some self.new.volumes)) }
         ensures lasts { Lasts (Some self.old.volumes) (Some self.new.volumes) }
         ensures counted { self.old.failures.number ≤ self.new.failures.number }
+        ensures clean { OnOk result (self.new.failures ≡ self.old.failures) }
         ensures failed { OnErr result (FailsOn vol.now self.old.failures self.new.failures) }
         ensures exact { OnOk result (self.new ≡ after_append vol.now bytes.now self.old) }
         ensures due { is_out self.old.appends_left ≡ true → result ≡ Err Failed }
@@ -220,6 +221,7 @@ impl VolumeStore for MemStore {
         ensures same { self.new ≡ self.old }
         ensures settled { self.new ≡ self.old }
         ensures counted { self.old.failures.number ≤ self.new.failures.number }
+        ensures clean { OnOk result (self.new.failures ≡ self.old.failures) }
         ensures failed { OnErr result (FailsOn vol.now self.old.failures self.new.failures) }
         ensures exact { result ≡ Ok (length (bytes_of_volume self.old.volumes vol.now)) }
     {
@@ -236,6 +238,7 @@ impl VolumeStore for MemStore {
         ensures same { self.new ≡ self.old }
         ensures lasts { Lasts (Some self.old.volumes) (Some self.new.volumes) }
         ensures counted { self.old.failures.number ≤ self.new.failures.number }
+        ensures clean { OnOk result (self.new.failures ≡ self.old.failures) }
         ensures failed { OnErr result (FailsOn vol.now self.old.failures self.new.failures) }
         ensures exact { result ≡ Ok tt }
     {

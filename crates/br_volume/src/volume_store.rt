@@ -30,6 +30,7 @@ pub trait VolumeStore {
         ensures refused { OnErr result (AppendsInPartTo vol.now bytes.now (holds self.old) (holds self.new)) }
         ensures lasts { Lasts (durable self.old) (durable self.new) }
         ensures counted { (failures self.old).number ≤ (failures self.new).number }
+        ensures clean { OnOk result (failures self.new ≡ failures self.old) }
         ensures failed { OnErr result (FailsOn vol.now (failures self.old) (failures self.new)) };
 
     /// Returns the length of a volume in bytes; 0 if the volume does not exist. Changes no volume.
@@ -42,6 +43,7 @@ pub trait VolumeStore {
         ensures same { holds self.new ≡ holds self.old }
         ensures settled { durable self.new ≡ durable self.old }
         ensures counted { (failures self.old).number ≤ (failures self.new).number }
+        ensures clean { OnOk result (failures self.new ≡ failures self.old) }
         ensures failed { OnErr result (FailsOn vol.now (failures self.old) (failures self.new)) };
 
     /// Makes a volume durable: its name, and all its bytes. Does nothing if the volume does not
@@ -50,12 +52,14 @@ pub trait VolumeStore {
     /// # Errors
     ///
     /// `Failed` if the store failed. A system may drop what was not durable then, and let a later
-    /// call succeed. So a volume whose sync failed is not to be appended to again.
+    /// call succeed. So a volume whose sync failed is not to be appended to again, and by `clean` no
+    /// caller may try again and say that all is well.
     fn sync(&mut self, vol: &VolName) -> Result<(), VolumeFault>
         ensures synced { OnOk result (IsDurableIn (holds self.new) (durable self.new) vol.now) }
         ensures same { holds self.new ≡ holds self.old }
         ensures lasts { Lasts (durable self.old) (durable self.new) }
         ensures counted { (failures self.old).number ≤ (failures self.new).number }
+        ensures clean { OnOk result (failures self.new ≡ failures self.old) }
         ensures failed { OnErr result (FailsOn vol.now (failures self.old) (failures self.new)) };
 }
 

@@ -15,17 +15,13 @@ mod command;
 
 use crate::command::run_command;
 use br_catalog_files::CatalogueFiles;
-use br_cli::BAD_STREAM;
 use br_cli_args::read_words;
-use br_cli_common::{CLEAN, REFUSED, tell_refusal};
+use br_cli_common::{BAD_COMMAND, BAD_STREAM, CLEAN, REFUSED, tell_refusal};
 use std::io::{self, ErrorKind};
 use std::process::ExitCode;
 use std::rt::Env;
 use std::sync::Wait;
 use std::thread::Threads;
-
-/// The exit status for a fault of the command line.
-const BAD_COMMAND: u8 = 2;
 
 /// Returns the words of the command line, the program's name first; `None` if one of them is not
 /// UTF-8.

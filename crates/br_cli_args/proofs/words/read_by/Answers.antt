@@ -12,5 +12,5 @@ returns-in_err-parsed-clause-fails c =
 pub returns-in-Some-clause-fails : goal.returns-in-Some-clause-fails
 returns-in-Some-clause-fails c = no_fault _ (asked c.in-Some.invocation) c.in_ok-parsed.ensures.fails (search rules)
 
-pub returns-in_ok-error-in-None-clause-fails : goal.returns-in_ok-error-in-None-clause-fails
-returns-in_ok-error-in-None-clause-fails c = nothing_asked _ c.in_ok-error-in-None.field-0 c.in_ok-parsed.ensures.fails (search rules) (search rules)
+pub returns-in_ok-error_of-in-None-clause-fails : goal.returns-in_ok-error_of-in-None-clause-fails
+returns-in_ok-error_of-in-None-clause-fails c = nothing_asked _ c.in_ok-error_of-in-None.field-0 c.in_ok-parsed.ensures.fails (search rules) (search rules)

@@ -23,7 +23,7 @@ loop-block-preserved g c =
       written_next c.args.blocks.now c.loop-block.block-index c.block-item.result (shelf (holds c.args.volumes.now) (failures c.args.volumes.now) c.args.vouches.now)
           (shelf (holds c.loop-block.volumes) (failures c.loop-block.volumes) c.loop-block.vouches) (shelf (holds c.append.new.self) (failures c.append.new.self) c.grow.new.vouches)
           c.loop-block-test.true c.block-item.is c.loop-block.invariant.0 (rw c.deref.ensures.value at c.in-Ok.ensures.appended)
-          (c.grow.ensures ∙ ap (λ (n : ℕ). changed (longer n) c.block-item.result.0 c.loop-block.vouches) len) c.in-Ok.ensures.counted,
+          (c.grow.ensures ∙ ap (λ (n : ℕ). changed (longer n) c.block-item.result.0 c.loop-block.vouches) len) c.in-Ok.ensures.clean,
       lasts_more _ _ _ c.loop-block.invariant.1 c.append.ensures.lasts,
     )
 

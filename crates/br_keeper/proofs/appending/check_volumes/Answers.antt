@@ -23,4 +23,5 @@ loop-start-preserved g c =
       all_next (IsVouched c.args.vouches.now (g.W.VolumeStore.holds c.args.volumes.now)) c.args.starts.now c.loop-start.start-index c.start-item.result c.loop-start-test.true c.start-item.is inv.2
           (subst (λ (v : Option (List Volume)). IsVouched c.args.vouches.now v c.start-item.result) inv.0 e.checked),
       e.settled ∙ inv.3,
+      e.clean ∙ inv.4,
     )

@@ -6,14 +6,14 @@ use Rattle.br_plan.specs.Parts.{Rise, is_up_to, is_within}
 use Rattle.br_plan.proofs.PartLaws.{within_is}
 use Rattle.br_plan.proofs.part.part_of.Goals as goal
 
-pub up_to_last-requires : goal.up_to_last-requires
-up_to_last-requires c =
-    subst Rise (sym c.from_first.ensures) (IsStrictlySortedBy-filter file_cmp _ c.args.files.now c.requires)
+pub up_to_last-requires-clause-rise : goal.up_to_last-requires-clause-rise
+up_to_last-requires-clause-rise c =
+    subst Rise (sym c.from_first.ensures.files) (IsStrictlySortedBy-filter file_cmp _ c.args.all.files.now c.requires.rise)
 
-pub returns : goal.returns
-returns c =
-    let files = c.args.files.now in
+pub returns-clause-files : goal.returns-clause-files
+returns-clause-files c =
+    let files = c.args.all.files.now in
     let job = c.args.job in
-    c.up_to_last.ensures ∙ ap (filter (is_up_to job c.span.inside.last)) c.from_first.ensures
+    c.up_to_last.ensures.files ∙ ap (filter (is_up_to job c.span.inside.last)) c.from_first.ensures.files
     ∙ within_is job (record { volume = c.args.span.now.volume; first = c.span.inside.first; last = c.span.inside.last; start = 0; end = 0; vol_index = 0 }) files
     ∙ ap (λ (s : Span). filter (is_within job s) files) c.span.view_is

@@ -7,4 +7,4 @@ use Rattle.br_plan.proofs.plan_group.add_job.Given as goal
 
 -- after the first groups those of the spans so far, which a bootstrap may have
 abbrev pub invariant-loop-span : goal.invariant-loop-span
-invariant-loop-span l = (l.groups.items ≡ l.initial.groups.items ++ flat_map (groups_of_span l.files l.job) (take l.span-index l.span-items)) × (list_all is_group l.groups.items ≡ true)
+invariant-loop-span l = (l.groups.items ≡ l.initial.groups.items ++ flat_map (groups_of_span l.files.files.now l.job) (take l.span-index l.span-items)) × (list_all is_group l.groups.items ≡ true)
