@@ -24,7 +24,7 @@ all_rows =
     (codes "Free memory or mark fewer files, and run the command again.") ∷
     row_with 2 (codes "BadName")
     (codes "The client or the file set has a name that is not allowed.")
-    (codes "Take the name from the catalogue: 1 to 127 letters, digits, spaces, `-`, `_`, `.` and `:`.") ∷
+    (codes "Take the name from the catalogue: 1 to 127 letters, digits, spaces, `-`, `_`, `.` and `:`. Put a name with spaces in quotes.") ∷
     row_with 3 (codes "BadPath")
     (codes "A path does not begin with `/`, is longer than 4,096 bytes, or has an empty part or a part `.` or `..`.")
     (codes "In a script, give a path that follows these rules.") ∷
@@ -96,7 +96,7 @@ all_rows =
     (codes "Free memory, or check space and permissions; then name another volume in `place`.") ∷
     row_with 45 (codes "StoreFault")
     (codes "The catalogue is missing, empty, in use, cannot be opened, or is no sound database with the tables of this program.")
-    (codes "Check `--db`. If a `-journal` lies beside the file, let `sqlite3` open it once, in a folder that can be written. Copy a file that has a second name (a hard link). Else try another copy, or restore by a bootstrap with `extract`; import a catalogue of Bacula's.") ∷
+    (codes "Check `--db`, and whether you may read it. If a `-journal` lies beside the file, let `sqlite3` open it once, in a folder that can be written. Copy a file that has a second name (a hard link). Else try another copy, or restore by a bootstrap with `extract`; import a catalogue of Bacula's.") ∷
     row_with 46 (codes "StoredNotPublished")
     (codes "The job is in the catalogue, but restores do not see it yet.")
     (codes "In a script, free memory and commit again, which publishes the job first.") ∷
@@ -147,7 +147,7 @@ all_rows =
     (codes "Give the groups of a bootstrap in the order of writing; else try another copy or choose an earlier moment.") ∷
     row_with 63 (codes "NoAttributes")
     (codes "The volumes have no attribute record of the file, or no part at all of a planned file.")
-    (codes "Copy the volume again, since it may be cut, and check that it belongs to the catalogue; else try another copy or choose an earlier moment.") ∷
+    (codes "Copy the volume again, since it may be cut, and check that it belongs to the catalogue: once Bacula recycles a volume, its older jobs are lost. Else try another copy or choose another moment.") ∷
     row_with 64 (codes "BadAttributes")
     (codes "The file has two attribute records, or one that cannot be read.")
     (codes "Try another copy or choose an earlier moment; of a Virtual Full use `bextract`.") ∷
@@ -177,7 +177,7 @@ all_rows =
     (codes "Find out who changes it, since a backup only appends. Run the command again when nobody does, or try another copy.") ∷
     row_with 80 (codes "SinkFault")
     (codes "A file or folder could not be written, or its path is not UTF-8.")
-    (codes "The first file of the manifest that is not whole is the one: check space and whether you may write there, or leave it out.") ∷
+    (codes "The first file of the manifest that is not whole is the one: check space and whether you may write there, or leave it out. A tar file needs room for all files.") ∷
     row_with 81 (codes "PathInTheWay")
     (codes "The folder of `--into` does not exist or is not empty, or the file of `--tar` is there already; or one path of the restore is both a file and a folder.")
     (codes "Make an empty folder for `--into`, or name a new file for `--tar`; if the manifest was printed, restore the two paths into two folders.") ∷

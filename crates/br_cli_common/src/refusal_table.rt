@@ -12,7 +12,7 @@ pub(crate) const REFUSALS: [Refusal; 55] = [
         number: 2,
         name: "BadName",
         meaning: "The client or the file set has a name that is not allowed.",
-        next: "Take the name from the catalogue: 1 to 127 letters, digits, spaces, `-`, `_`, `.` and `:`.",
+        next: "Take the name from the catalogue: 1 to 127 letters, digits, spaces, `-`, `_`, `.` and `:`. Put a name with spaces in quotes.",
     },
     Refusal {
         number: 3,
@@ -156,7 +156,7 @@ pub(crate) const REFUSALS: [Refusal; 55] = [
         number: 45,
         name: "StoreFault",
         meaning: "The catalogue is missing, empty, in use, cannot be opened, or is no sound database with the tables of this program.",
-        next: "Check `--db`. If a `-journal` lies beside the file, let `sqlite3` open it once, in a folder that can be written. Copy a file that has a second name (a hard link). Else try another copy, or restore by a bootstrap with `extract`; import a catalogue of Bacula's.",
+        next: "Check `--db`, and whether you may read it. If a `-journal` lies beside the file, let `sqlite3` open it once, in a folder that can be written. Copy a file that has a second name (a hard link). Else try another copy, or restore by a bootstrap with `extract`; import a catalogue of Bacula's.",
     },
     Refusal {
         number: 46,
@@ -258,7 +258,7 @@ pub(crate) const REFUSALS: [Refusal; 55] = [
         number: 63,
         name: "NoAttributes",
         meaning: "The volumes have no attribute record of the file, or no part at all of a planned file.",
-        next: "Copy the volume again, since it may be cut, and check that it belongs to the catalogue; else try another copy or choose an earlier moment.",
+        next: "Copy the volume again, since it may be cut, and check that it belongs to the catalogue: once Bacula recycles a volume, its older jobs are lost. Else try another copy or choose another moment.",
     },
     Refusal {
         number: 64,
@@ -318,7 +318,7 @@ pub(crate) const REFUSALS: [Refusal; 55] = [
         number: 80,
         name: "SinkFault",
         meaning: "A file or folder could not be written, or its path is not UTF-8.",
-        next: "The first file of the manifest that is not whole is the one: check space and whether you may write there, or leave it out.",
+        next: "The first file of the manifest that is not whole is the one: check space and whether you may write there, or leave it out. A tar file needs room for all files.",
     },
     Refusal {
         number: 81,
