@@ -2,7 +2,9 @@
 ghost use Rattle.std.specs.Prelude.{◌≡◌, IfOk};
 ghost use Rattle.br_cli.specs.Explaining.{number_status};
 
-use br_cli_common::{BAD_COMMAND, CLEAN, Refusal, explain, push_refusals, refusals};
+use br_cli_common::{
+    BAD_COMMAND, CLEAN, Refusal, explain, push_refusals, refusals_below_50, refusals_from_50,
+};
 use br_engine::show;
 use std::io;
 
@@ -15,7 +17,8 @@ fn print_rows<R: Print + AllocGlobal>(rt: &R, rows: &[Refusal]) -> io::Result<()
 
 /// Prints the meaning of all numbers. Returns the exit status.
 pub fn explain_all<R: Print + AllocGlobal>(rt: &R) -> io::Result<u8> {
-    print_rows(rt, refusals())?;
+    print_rows(rt, refusals_below_50())?;
+    print_rows(rt, refusals_from_50())?;
     Ok(CLEAN)
 }
 

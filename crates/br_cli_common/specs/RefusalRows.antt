@@ -1,5 +1,5 @@
 -- The rows of the table: for each number its name, what it means and what to do next.
-use Rattle.std.specs.Prelude.{ℕ, List, [], ◌∷◌, codes}
+use Rattle.std.specs.Prelude.{ℕ, List, [], ◌∷◌, ◌++◌, codes}
 use Rattle.br_cli_common.specs.declared.refusal.Refusal.{Refusal}
 
 -- a row, with its words as bytes
@@ -16,9 +16,9 @@ row_of r = record { number = r.number; name = r.name.now; meaning = r.meaning.no
 abbrev pub row_with : ℕ → List ℕ → List ℕ → List ℕ → Row
 row_with n words means following = record { number = n; name = words; meaning = means; next = following }
 
--- every row, in order of number
-abbrev pub all_rows : List Row
-all_rows =
+-- every row below 50, in order of number
+abbrev pub rows_below_50 : List Row
+rows_below_50 =
     row_with 1 (codes "Memory")
     (codes "The program ran out of memory.")
     (codes "Free memory or mark fewer files, and run the command again.") ∷
@@ -105,7 +105,11 @@ all_rows =
     (codes "If `migrate` says it, try `console`; else try another copy, or restore by a bootstrap with `extract`.") ∷
     row_with 48 (codes "OldCatalogue")
     (codes "The catalogue is of version 1, which this program no longer reads as it is.")
-    (codes "Keep a copy of the file, and make it version 2 with `migrate`.") ∷
+    (codes "Keep a copy of the file, and make it version 2 with `migrate`.") ∷ []
+
+-- every row from 50 on
+abbrev pub rows_from_50 : List Row
+rows_from_50 =
     row_with 50 (codes "NoFull")
     (codes "No good Full backup of this client and file set began before the moment.")
     (codes "Choose a later moment, in UTC, or restore by a bootstrap with `extract`.") ∷
@@ -185,3 +189,7 @@ all_rows =
     (codes "The printed line of the script fits no form, or comes at a wrong place.")
     (codes "Correct the line: docs/formats.md lists the forms.") ∷
     []
+
+-- every row, in order of number
+abbrev pub all_rows : List Row
+all_rows = rows_below_50 ++ rows_from_50

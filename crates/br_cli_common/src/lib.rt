@@ -1,9 +1,9 @@
 //! What the commands have in common: their options as plain values, the exit statuses, and what
 //! they print at a terminal besides what the formats fix.
 //!
-//! `refusals` returns the table of the refusal numbers and the numbers of outcomes: for each its name,
-//! what it means and what to do next. `explain` looks up a number, `push_refusals` writes rows as
-//! text, and `push_words` the two lines that are printed beside a refusal. `specs/RefusalRows.antt`
+//! `refusals_below_50` and `refusals_from_50` return the table of the refusal numbers and the numbers
+//! of outcomes: for each its name, what it means and what to do next. `explain` looks up a number,
+//! `push_refusals` writes rows as text, and `push_words` the two lines that are printed beside a refusal. `specs/RefusalRows.antt`
 //! and the table of docs/RESTORING.md have the same words.
 //!
 //! `reason_of_file` and similar functions say in words why a file or a folder could not be written
@@ -30,7 +30,7 @@ pub use options::{
     Progress, ServeOptions, Syncs, Target,
 };
 pub use prompt::{Prompted, greet, is_attended, with_prompt};
-pub use refusal::{Refusal, explain, refusals};
+pub use refusal::{Refusal, explain, refusals_below_50, refusals_from_50};
 pub use refusal_lines::{push_with_words, push_words, refused_number};
 pub use refusal_text::push_refusals;
 pub use refusal_words::{is_shown, tell_refusal, tell_refusals};

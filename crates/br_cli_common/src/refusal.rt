@@ -1,9 +1,9 @@
 ghost use Rattle.std.specs.Prelude.{◌≡◌, ◌==◌, ◌≤◌, ◌&&◌, IfSome, find, map, is_some, nat_le, option_map};
 ghost use Rattle.std.specs.List.{list_any};
-ghost use Rattle.br_cli_common.specs.RefusalRows.{all_rows, row_of};
+ghost use Rattle.br_cli_common.specs.RefusalRows.{all_rows, rows_below_50, rows_from_50, row_of};
 ghost use Rattle.br_cli_common.specs.RefusalTable.{explained, is_outcome};
 
-use crate::refusal_table::REFUSALS;
+use crate::refusal_table::{BELOW_50, FROM_50};
 
 /// What an operator should know of a refusal, or of an outcome of a file, by its number.
 #[derive(Clone, Copy)]
@@ -41,11 +41,18 @@ fn row_in(refusals: &'static [Refusal], number: u32) -> Option<&'static Refusal>
     find_in(refusals, number)
 }
 
-/// Returns the rows of the table, in order of number.
-pub fn refusals() -> &'static [Refusal]
-    ensures { map row_of result.now ≡ all_rows }
+/// Returns the rows of the table below 50, in order of number.
+pub fn refusals_below_50() -> &'static [Refusal]
+    ensures { map row_of result.now ≡ rows_below_50 }
 {
-    &REFUSALS
+    &BELOW_50
+}
+
+/// Returns the rows of the table from 50 on, in order of number.
+pub fn refusals_from_50() -> &'static [Refusal]
+    ensures { map row_of result.now ≡ rows_from_50 }
+{
+    &FROM_50
 }
 
 /// Returns the row of the table with this number; `None` if no refusal and no outcome has it.
@@ -54,5 +61,5 @@ pub fn explain(number: u32) -> Option<&'static Refusal>
     ensures known { is_some result ≡ list_any (λ n. n == number) explained }
     ensures number { IfSome result (λ row. row.now.number ≡ number) }
 {
-    row_in(refusals(), number)
+    row_in(refusals_below_50(), number).or(row_in(refusals_from_50(), number))
 }

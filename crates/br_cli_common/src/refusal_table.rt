@@ -1,7 +1,8 @@
 use crate::refusal::Refusal;
 
-/// The refusals and the outcomes, in order of number.
-pub(crate) const REFUSALS: [Refusal; 55] = [
+/// The refusals with numbers below 50, in order. What a constant holds is compared with the rows of the
+/// specs as a whole, and one of all rows is longer than a proof may be.
+pub(crate) const BELOW_50: [Refusal; 29] = [
     Refusal {
         number: 1,
         name: "Memory",
@@ -176,6 +177,10 @@ pub(crate) const REFUSALS: [Refusal; 55] = [
         meaning: "The catalogue is of version 1, which this program no longer reads as it is.",
         next: "Keep a copy of the file, and make it version 2 with `migrate`.",
     },
+];
+
+/// The refusals from 50 on and the outcomes, in order.
+pub(crate) const FROM_50: [Refusal; 26] = [
     Refusal {
         number: 50,
         name: "NoFull",
