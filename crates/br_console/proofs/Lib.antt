@@ -7,3 +7,4 @@ pub mod DeskLaws
 pub mod DialogueLaws
 pub mod FixedLaws
 pub mod DrivenLaws
+pub mod LineLaws
