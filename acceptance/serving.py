@@ -35,6 +35,8 @@ from stored import differences, has_tables, rows_by, rows_of, served, volumes_of
 
 CLIENT, FILE_SET = b"mars", b"home"
 ALL = b"mark *\ndone\n"
+# The answer to a file without tables.
+NO_CATALOGUE = 1, b"", b"refused 45\n"
 JOBS, FILES = 24, 12
 # A console begins at most this long before a kill, in seconds. It looks at the catalogue within that time.
 AHEAD = 0.02
@@ -397,8 +399,10 @@ def kills(given, folder):
         place, is_early = Place(os.path.join(folder, str(number))), dice.random() < 0.1
         after = dice.random() * (start if is_early else rest)
         status, lines, seen = killed(given.program, place, script_file, after, is_early, dice.random() * AHEAD)
+        # A run that was killed before it made the tables leaves no catalogue.
+        is_refused = seen and seen[1] == NO_CATALOGUE and not has_tables(place.catalogue)
         count, retired, wrong = after_kill(given, place, whole, lines)
-        if seen:
+        if seen and not is_refused:
             wrong += fronts.wrong("console", seen[1], seen[0], count)
         if status not in (-9, 0):
             wrong.append(f"status {status}")
