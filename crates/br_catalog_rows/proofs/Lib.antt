@@ -2,4 +2,5 @@ pub mod Cuts
 pub mod ReadLaws
 pub mod SpanOrder
 pub mod LoadLaws
+pub mod SomeFilesLaws
 pub mod InsertedLaws

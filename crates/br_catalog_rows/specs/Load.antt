@@ -9,6 +9,7 @@ use Rattle.sqlite.specs.declared.types.Value.{Value}
 use Rattle.sqlite.specs.Order.{Row, column}
 use Rattle.br_model.specs.Answer.{◌>>=◌, refuse_if}
 use Rattle.br_model.specs.Job.{JobRow, Span, JobRows, checked_rows, no_pair, clash}
+use Rattle.br_needed.specs.Needed.{with_needed}
 use Rattle.br_catalog_rows.specs.Decode.{natural, small, refused, read_job, read_span, read_file}
 use Rattle.br_catalog_rows.specs.Rows.{Rows}
 
@@ -85,6 +86,35 @@ unfoldable pub read_history : Rows → Result (List JobRows) ℕ
 read_history rows = do
   _ ← check_version rows.versions
   read_loaded rows.jobs rows.spans rows.files
+
+-- ---- the rows that are looked at
+
+-- whether the row belongs to one of the jobs with these numbers
+abbrev pub is_of_any : List ℕ → Row → Bool
+is_of_any ids row = list_any (λ id. is_of id row) ids
+
+-- the rows, but of those of files only the ones that belong to the jobs with these numbers
+abbrev pub with_files_of : List ℕ → Rows → Rows
+with_files_of ids rows = record rows { files = filter (is_of_any ids) rows.files }
+
+-- the rows without those of files
+abbrev pub without_files : Rows → Rows
+without_files rows = record rows { files = [] }
+
+-- The history of the rows of which those of files are read that are needed: first of the rows without
+-- those of files, and then with those of the jobs whose files that history needs. 47 if the rows that
+-- are read form no history.
+unfoldable pub read_needed : (List JobRows → List ℕ) → Rows → Result (List JobRows) ℕ
+read_needed needed rows = do
+  jobs ← read_history (without_files rows)
+  read_history (with_files_of (needed jobs) rows)
+
+-- A law about rows that form a history: what is read of them is that history, of which those jobs
+-- alone have files whose files are needed.
+abbrev pub NeededLoads : Type 0
+NeededLoads =
+    (needed : List JobRows → List ℕ) (rows : Rows) (history : List JobRows) → read_history rows ≡ Ok history
+    → read_needed needed rows ≡ Ok (with_needed needed history)
 
 -- ---- rows held by job
 

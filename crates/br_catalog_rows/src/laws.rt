@@ -7,7 +7,7 @@ ghost use Rattle.br_model.specs.Name.{is_letter, is_name};
 ghost use Rattle.br_model.specs.Job.{JobRow as Job, JobRows as Whole, clash, is_job_row, no_pair};
 ghost use Rattle.br_catalog_rows.specs.Decode.{IsDigest, FilesReadBack, SpansReadBack, job_row, read_job};
 ghost use Rattle.br_catalog_rows.specs.Inserted.{IsFile, IsSpan, Tried, by_id, taken};
-ghost use Rattle.br_catalog_rows.specs.Load.{read_history};
+ghost use Rattle.br_catalog_rows.specs.Load.{NeededLoads, read_history};
 ghost use Rattle.br_catalog_rows.specs.Rows.{Rows};
 
 use br_history::{FileRow, JobRow};
@@ -27,6 +27,12 @@ pub fn rows_read_back()
 pub fn inserted_jobs_load()
     ensures loads { (tries : List (Whole × Bool)) (rows : Rows) → Tried tries rows → read_history rows ≡ Ok (by_id (taken tries)) }
     ensures apart { (tries : List (Whole × Bool)) (rows : Rows) → Tried tries rows → no_pair clash (taken tries) ≡ true }
+{}
+
+/// States which history is loaded from the rows of a history if only the files that are needed are
+/// read: the same jobs with the same spans, of which those alone have files whose files are needed.
+pub fn needed_files_load()
+    ensures { NeededLoads }
 {}
 
 fn fits_32(number: u32)

@@ -13,5 +13,8 @@ mod value;
 
 pub use encode::{cut, digits_of, high_half, low_half};
 pub use fault::{RowsFault, StoreFault};
-pub use laws::{file_is_whole, inserted_jobs_load, job_is_whole, rows_read_back, span_is_whole};
-pub use load::{CatalogueRows, history_of};
+pub use laws::{
+    file_is_whole, inserted_jobs_load, job_is_whole, needed_files_load, rows_read_back,
+    span_is_whole,
+};
+pub use load::{CatalogueRows, history_of, is_of_any};

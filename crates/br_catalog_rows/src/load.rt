@@ -7,6 +7,7 @@ ghost use Rattle.std.specs.BTreeMap.{get};
 ghost use Rattle.br_model.specs.Answer.{Answers, refuse_if};
 ghost use Rattle.br_model.specs.Job.{JobRow as Job};
 ghost use Rattle.sqlite.specs.Order.{column};
+ghost use Rattle.br_needed.specs.Needed.{is_one_of};
 ghost use Rattle.br_catalog_rows.specs.Load as load;
 ghost use Rattle.br_catalog_rows.specs.Fault.{rows_cause};
 ghost use Rattle.br_catalog_rows.specs.Rows.{Rows};
@@ -15,9 +16,10 @@ ghost use Rattle.br_catalog_rows.specs.Load.{read_all, by_number, read_rows, if_
 
 use crate::decode::{file_of, job_of, span_of};
 use crate::fault::RowsFault;
-use crate::value::{natural_at, small_at};
+use crate::value::{natural_at, number_at, small_at};
 use br_history::{FileRow, History, JobRow, JobRows};
 use br_session::Span;
+use br_types::JobId;
 use sqlite::Row;
 use std::alloc::{AllocError, Global};
 use std::collections::BTreeMap;
@@ -205,8 +207,25 @@ fn joined(alloc: Global, jobs: Vec<JobRows>) -> Result<History, RowsFault>
     Ok(history)
 }
 
-/// All rows of a catalogue, with names in place of numbers: the versions, the jobs in order of
-/// JobId, the spans in order of JobMediaId and the files in order of FileId.
+/// Returns true if a job of these has the number.
+fn has_number(jobs: &[JobId], number: u32) -> bool
+    ensures { result ≡ is_one_of jobs.now number }
+{
+    jobs.iter().any(|job| job.get() == number)
+}
+
+/// Returns true if a row of a span or a file belongs to one of these jobs.
+pub fn is_of_any(row: &Row, jobs: &[JobId]) -> bool
+    ensures { result ≡ load.is_of_any jobs.now row.now }
+{
+    match number_at(row, 0) {
+        Some(number) => has_number(jobs, number),
+        None => false,
+    }
+}
+
+/// Rows of a catalogue, with names in place of numbers: the versions, the jobs in order of JobId,
+/// the spans in order of JobMediaId and the files in order of FileId.
 #[derive(Drop)]
 pub struct CatalogueRows {
     pub versions: Vec<Row>,

@@ -1,6 +1,7 @@
 //! The values of a row, read by the kind of their column.
 
 ghost use Rattle.std.specs.Prelude.{◌≡◌};
+ghost use Rattle.std.specs.Result.{result_ok};
 ghost use Rattle.sqlite.specs.Order.{column};
 ghost use Rattle.br_model.specs.Answer.{Answers};
 ghost use Rattle.br_catalog_rows.specs.Fault.{rows_cause};
@@ -34,6 +35,20 @@ pub(crate) fn small_at(row: &Row, at: usize) -> Result<u32, RowsFault>
     match u32::try_from(number) {
         Ok(small) => Ok(small),
         Err(_) => Err(RowsFault::BadRows),
+    }
+}
+
+/// Returns the number in a column, if it is one that fits in 32 bits.
+#[tactic(auto, unfolding(crate::specs::Decode::small))]
+pub(crate) fn number_at(row: &Row, at: usize) -> Option<u32>
+    ensures { result ≡ result_ok (small (column row.now at)) }
+{
+    match row.get_ref(at) {
+        Ok(ValueRef::Int(number)) => match u64::try_from(number) {
+            Ok(natural) => u32::try_from(natural).ok(),
+            Err(_) => None,
+        },
+        _ => None,
     }
 }
 

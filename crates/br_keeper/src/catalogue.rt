@@ -1,9 +1,10 @@
-//! The catalogue of jobs, as `console` and `serve` need it.
+//! The catalogue of jobs, as the commands need it.
 ghost use Rattle.std.specs.Prelude.{◌≡◌, IfOk, OnOk};
-ghost use Rattle.br_keeper.specs.Catalogue.{AreJobs, catalogue_number};
+ghost use Rattle.br_keeper.specs.Catalogue.{AreJobs, AreNeeded, catalogue_number};
 
 use crate::job_store::JobStore;
 use br_history::History;
+use br_needed::Needs;
 use thiserror::Error;
 
 /// Why a catalogue was not opened, or its jobs were not loaded.
@@ -62,6 +63,12 @@ pub trait Catalogue {
     /// Loads all jobs of the catalogue at the path. If there is none, makes none; changes nothing.
     fn load(&self, db: &str) -> Result<History, CatalogueFault>
         ensures loaded { IfOk result (λ history. AreJobs (jobs_at self.now db.now) history) };
+
+    /// Loads all jobs of the catalogue at the path, and the files of those jobs whose files are needed.
+    /// Whatever is wrong with a row of another job's file is no reason to refuse the catalogue. If there
+    /// is none, makes none; changes nothing.
+    fn load_needed<N: Needs>(&self, db: &str, needs: &N) -> Result<History, CatalogueFault>
+        ensures loaded { IfOk result (λ history. AreNeeded (jobs_at self.now db.now) (N.needed needs.now) history) };
 
     /// Migrates the catalogue at the path from version 1 to 2. Returns the number of its jobs.
     fn migrate(&self, db: &str) -> Result<u64, CatalogueFault>;
