@@ -8,7 +8,7 @@ ghost use Rattle.sqlite_store.specs.FileStore.{view};
 ghost use Rattle.sqlite_trees.specs.View.{IsClean};
 ghost use Rattle.br_catalog_files.specs.FileCatalogue.{IsClosed, IsOpened, OfFoundRows};
 ghost use Rattle.br_catalog_rows.specs.Fault.{fault_number};
-ghost use Rattle.br_catalog_rows.specs.Load.{read_history};
+ghost use Rattle.br_catalog_rows.specs.Load.{read_history, read_needed};
 ghost use Rattle.br_store.specs.Calls.{IsJustOpened, WhileClean};
 ghost use Rattle.br_store.specs.Look.{look_number};
 ghost use Rattle.br_store.specs.Made.{Finds};
@@ -16,8 +16,10 @@ ghost use Rattle.br_keeper.specs.Catalogue.{catalogue_number};
 
 use br_history::History;
 use br_keeper::{Catalogue, CatalogueFault};
+use br_needed::Needs;
 use br_store::{HostSight, LookFault, Store, StoreFault, StoredJobs, fold, look};
 use sqlite::{Alter, Connection, File, FileStore};
+use sqlite_disk::Memory;
 use std::alloc::Global;
 
 /// Returns the fault of looking at a catalogue's file, as a fault of a catalogue.
@@ -79,15 +81,46 @@ fn load_from<S: Alter + Drop>(
     Ok((history, store.into_connection()))
 }
 
-/// Loads the jobs in the file of a catalogue and its log. Both are only read.
-fn load(rt: &HostRuntime, db: &str) -> Result<History, CatalogueFault> {
+/// Loads the jobs of a catalogue, and the files of those whose files are needed. Returns them and its
+/// connection.
+fn load_needed_from<S: Alter + Drop, N: Needs>(
+    alloc: Global,
+    conn: Connection<S>,
+    needs: &N,
+) -> Result<(History, Connection<S>), StoreFault>
+    requires { IsJustOpened S.Store conn }
+    ensures { IfOk result (λ r. WhileClean S.Store r.1 (λ _.
+        OfFoundRows (state S.Store conn).committed (λ rows. read_needed (N.needed needs.now) rows ≡ Ok r.0))) }
+{
+    let mut store = opened(alloc, conn)?;
+    let history = store.load_needed(needs)?;
+    Ok((history, store.into_connection()))
+}
+
+/// Shows the database in the file of a catalogue and its log. Both are only read.
+fn look_at(rt: &HostRuntime, db: &str) -> Result<Connection<FileStore<Memory>>, CatalogueFault>
+    ensures { IfOk result (λ c. IsJustOpened over_files c) }
+{
     let mut sight = HostSight::new(rt, db).map_err(look_fault)?;
     match look(rt.alloc(), &mut sight) {
-        Ok(conn) => match load_from(rt.alloc(), conn) {
-            Ok((history, _conn)) => Ok(history),
-            Err(fault) => Err(catalogue_fault(fault)),
-        },
+        Ok(conn) => Ok(conn),
         Err(fault) => Err(look_fault(fault)),
+    }
+}
+
+/// Loads the jobs in the file of a catalogue.
+fn load(rt: &HostRuntime, db: &str) -> Result<History, CatalogueFault> {
+    match load_from(rt.alloc(), look_at(rt, db)?) {
+        Ok((history, _conn)) => Ok(history),
+        Err(fault) => Err(catalogue_fault(fault)),
+    }
+}
+
+/// Loads the jobs in the file of a catalogue, and the files of those whose files are needed.
+fn load_needed<N: Needs>(rt: &HostRuntime, db: &str, needs: &N) -> Result<History, CatalogueFault> {
+    match load_needed_from(rt.alloc(), look_at(rt, db)?, needs) {
+        Ok((history, _conn)) => Ok(history),
+        Err(fault) => Err(catalogue_fault(fault)),
     }
 }
 
@@ -193,6 +226,10 @@ impl Catalogue for CatalogueFiles<'_> {
 
     fn load(&self, db: &str) -> Result<History, CatalogueFault> {
         load(self.rt, db)
+    }
+
+    fn load_needed<N: Needs>(&self, db: &str, needs: &N) -> Result<History, CatalogueFault> {
+        load_needed(self.rt, db, needs)
     }
 
     fn migrate(&self, db: &str) -> Result<u64, CatalogueFault> {

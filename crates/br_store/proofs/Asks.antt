@@ -14,6 +14,7 @@ use Rattle.sqlite.proofs.Callers.{IsPlain, command_of}
 use Rattle.sqlite_resolve.specs.Compile.{first, planned}
 use Rattle.sqlite_syntax.specs.declared.statement.Parsed.{Parsed}
 use Rattle.br_catalog_tables.specs.TreePlaces.{Layout}
+pub use Rattle.br_store.specs.Queries.{select_files}
 use Rattle.br_store.proofs.Compiled.{compiled_ok}
 
 -- the text means this query
@@ -39,9 +40,6 @@ select_jobs = codes "SELECT Job.JobId, Job.Type, Job.Level, Client.Name, Job.Job
 
 abbrev pub select_spans : List ℕ
 select_spans = codes "SELECT JobMedia.JobId, Media.VolumeName, JobMedia.FirstIndex, JobMedia.LastIndex, JobMedia.StartFile, JobMedia.EndFile, JobMedia.StartBlock, JobMedia.EndBlock, JobMedia.VolIndex FROM JobMedia JOIN Media ON Media.MediaId = JobMedia.MediaId ORDER BY JobMedia.JobMediaId"
-
-abbrev pub select_files : List ℕ
-select_files = codes "SELECT File.JobId, File.FileIndex, Path.Path, File.Filename, File.LStat, File.MD5 FROM File JOIN Path ON Path.PathId = File.PathId ORDER BY File.FileId"
 
 abbrev pub versions_query : ℕ → Query
 versions_query tree = record {

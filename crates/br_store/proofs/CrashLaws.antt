@@ -20,8 +20,7 @@ use Rattle.br_keeper.specs.Committing.{Commits}
 use Rattle.br_keeper.specs.Keeping.{Keeping}
 use Rattle.br_keeper.specs.Writing.{Shelf}
 use Rattle.br_keeper.specs.Outcomes.{Lasting}
-use Rattle.br_keeper.specs.Holding.{AreHeld, Outlast, Stands, job_with}
-use Rattle.br_keeper.specs.Channel.{IsCommit}
+use Rattle.br_keeper.specs.Holding.{AreHeld, Outlast, job_with}
 use Rattle.br_keeper.proofs.OutlastingLaws.{crashes_leave_jobs_lem, front_all}
 use Rattle.br_catalog_rows.specs.Inserted.{Adds}
 use Rattle.br_catalog_rows.specs.Rows.{Rows}

@@ -29,6 +29,8 @@ pub mod Writes
 pub mod Creates
 pub mod Opens
 pub mod Loads
+pub mod SomeFiles
+pub mod NeededFiles
 pub mod Opened
 pub mod CrashLaws
 pub mod LookCopies

@@ -1,5 +1,6 @@
 -- The rows in a database, with names in place of numbers, and the rows that a call adds.
-use Rattle.std.specs.Prelude.{◌≡◌, ◌⊎◌, ℕ, ◌-◌, pos, List, [], ◌∷◌, Bool, true, map, filter, find, unwrap_or, codes, bytes_eq, IsTrue, false, Option, Result, IfSome, OnOk}
+use Rattle.std.specs.Prelude.{◌≡◌, ◌⊎◌, ℕ, ◌-◌, pos, List, [], ◌∷◌, Bool, true, map, filter, find, unwrap_or, codes, bytes_eq, IsTrue, false, Option, Some, None, Result, IfSome, OnOk}
+use Rattle.std.specs.Borrow.{Bor}
 use Rattle.std.specs.List.{AllByRecursion}
 use Rattle.sqlite.specs.declared.types.Value.TheVariants.{Int, Text, Blob}
 use Rattle.sqlite.specs.declared.types.Value.{Value}
@@ -23,6 +24,7 @@ use Rattle.br_store.specs.declared.name_numbers.Dictionary.{Dictionary}
 use Rattle.br_store.specs.declared.name_numbers.Dictionary.TheVariants.{Client, FileSet, Media, Path}
 use Rattle.br_store.specs.declared.job_writing.PathParts.{PathParts}
 use Rattle.br_store.specs.Names.{tree_of, word}
+use Rattle.br_catalog_rows.specs.Load.{with_files_of}
 use Rattle.br_catalog_rows.specs.Rows.{Rows, with_file_row, with_job, with_spans}
 use Rattle.sqlite_trees.specs.Objects.{catalog_tree, number_in}
 use Rattle.sqlite_catalog.specs.Listing.{is_table_row}
@@ -115,6 +117,11 @@ rows_at l trees = record {
 -- the catalogue's rows in the trees of a database
 abbrev pub rows_in : Trees → Rows
 rows_in trees = rows_at (layout_in trees) trees
+
+-- the rows that are looked at: all, or of files only those of the jobs with these numbers
+abbrev pub looked_at : Option (Bor (List ℕ)) → Rows → Rows
+looked_at None rows = rows
+looked_at (Some ids) rows = with_files_of ids.now rows
 
 -- ---- databases
 

@@ -1,4 +1,5 @@
 pub mod Names
+pub mod Queries
 pub mod Held
 pub mod Made
 pub mod Calls

@@ -5,11 +5,11 @@ ghost use Rattle.sqlite.specs.Held.{state};
 ghost use Rattle.br_model.specs.Answer.{Answers};
 ghost use Rattle.br_catalog_tables.specs.Tables.{no_schema};
 ghost use Rattle.br_catalog_rows.specs.Fault.{IsStoreFault, cause, of_rows_fault};
-ghost use Rattle.br_catalog_rows.specs.Load.{read_history};
+ghost use Rattle.br_catalog_rows.specs.Load.{read_history, read_needed, without_files};
 ghost use Rattle.br_catalog_rows.specs.Rows.{no_rows};
 ghost use Rattle.br_store.specs.Calls.{AddsJob, CommitsNothing, IsCommitted, IsDurable, IsJustOpened, IsReadable, IsSame};
 ghost use Rattle.br_store.specs.Calls.{MayCommit, MayMake, OnCleanDisk, WhileClean};
-ghost use Rattle.br_store.specs.Held.{AddsMedia, IsCatalogue, HasTables, rows_in, versions_in};
+ghost use Rattle.br_store.specs.Held.{AddsMedia, IsCatalogue, HasTables, looked_at, rows_in, versions_in};
 ghost use Rattle.br_store.specs.Made.{Finds, IsLoadFault, IsOpenFault, IsWhy, version_refusal};
 
 use crate::job_writing::write_job;
@@ -17,6 +17,8 @@ use crate::opening::make_or_check;
 use crate::queries::{read, ready};
 use br_catalog_rows::{RowsFault, StoreFault, history_of};
 use br_history::{History, JobRows};
+use br_needed::Needs;
+use br_types::JobId;
 use sqlite::{Alter, Connection, Error};
 use std::alloc::Global;
 use std::marker::Model;
@@ -97,6 +99,23 @@ impl<S: Alter> Store<S> {
         Ok(insert(&mut self.conn, job)?)
     }
 
+    /// Loads the history that the rows form which are looked at: all, or of files those of some jobs
+    /// alone.
+    fn load(&mut self, wanted: Option<&[JobId]>) -> Result<History, StoreFault>
+        ensures answers { OnCleanDisk S.Store self.old self.new (λ old new.
+            Answers (λ h. h) cause result (read_history (looked_at wanted.entry (rows_in old.now.trees)))) }
+        ensures same { OnCleanDisk S.Store self.old self.new (λ old new. IsTrue new.is_open → IsSame old new) }
+        ensures open { OnCleanDisk S.Store self.old self.new (λ old new. OnOk result (IsTrue new.is_open)) }
+        ensures survives { CommitsNothing S.Store self.old self.new }
+        ensures cause { IfErr result (λ e. IsLoadFault e) }
+    {
+        let rows = read(self.alloc, &mut self.conn, wanted)?;
+        match history_of(self.alloc, &rows) {
+            Ok(history) => Ok(history),
+            Err(fault) => Err(store_fault(fault)),
+        }
+    }
+
     /// Loads the history that the rows form. If the store is still open then, the rows are as
     /// before (`same`).
     ///
@@ -112,11 +131,40 @@ impl<S: Alter> Store<S> {
         ensures survives { CommitsNothing S.Store self.old self.new }
         ensures cause { IfErr result (λ e. IsLoadFault e) }
     {
-        let rows = read(&mut self.conn)?;
-        match history_of(self.alloc, &rows) {
-            Ok(history) => Ok(history),
-            Err(fault) => Err(store_fault(fault)),
-        }
+        self.load(None)
+    }
+
+    /// Loads the jobs with their spans, and without their files. No row of a file is read.
+    fn load_jobs(&mut self) -> Result<History, StoreFault>
+        ensures answers { OnCleanDisk S.Store self.old self.new (λ old new.
+            Answers (λ h. h) cause result (read_history (without_files (rows_in old.now.trees)))) }
+        ensures same { OnCleanDisk S.Store self.old self.new (λ old new. IsTrue new.is_open → IsSame old new) }
+        ensures open { OnCleanDisk S.Store self.old self.new (λ old new. OnOk result (IsTrue new.is_open)) }
+        ensures survives { CommitsNothing S.Store self.old self.new }
+        ensures cause { IfErr result (λ e. IsLoadFault e) }
+    {
+        self.load(Some(&[]))
+    }
+
+    /// Loads all jobs with their spans, and the files of those jobs whose files are needed: first the
+    /// jobs alone, which decide that, and then the jobs with these files. The other jobs have no
+    /// files, and no row of a file of theirs is kept or looked at any further. If the store is still
+    /// open then, the rows are as before (`same`).
+    ///
+    /// # Errors
+    ///
+    /// As those of `load_history`, of the rows but for those of files of other jobs.
+    pub fn load_needed<N: Needs>(&mut self, needs: &N) -> Result<History, StoreFault>
+        ensures answers { OnCleanDisk S.Store self.old self.new (λ old new.
+            Answers (λ h. h) cause result (read_needed (N.needed needs.now) (rows_in old.now.trees))) }
+        ensures same { OnCleanDisk S.Store self.old self.new (λ old new. IsTrue new.is_open → IsSame old new) }
+        ensures open { OnCleanDisk S.Store self.old self.new (λ old new. OnOk result (IsTrue new.is_open)) }
+        ensures survives { CommitsNothing S.Store self.old self.new }
+        ensures cause { IfErr result (λ e. IsLoadFault e) }
+    {
+        let jobs = self.load_jobs()?;
+        let numbers = needs.needed_of(self.alloc, &jobs)?;
+        self.load(Some(&numbers))
     }
 
     /// Returns the connection to the database.

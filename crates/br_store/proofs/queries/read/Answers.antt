@@ -3,7 +3,7 @@ use Rattle.std.proofs.lemmas.Result.{IfOk-weaker, on_ok_weaker}
 use Rattle.sqlite.specs.Effect.{Database}
 use Rattle.sqlite.specs.State.{HasCleanDisk}
 use Rattle.sqlite.specs.Held.{state}
-use Rattle.br_store.specs.Held.{HasTables, rows_in}
+use Rattle.br_store.specs.Held.{HasTables, looked_at, rows_in}
 use Rattle.br_store.proofs.Appends.{survives_both}
 use Rattle.br_store.proofs.Ready.{from_both, stays, stays_both}
 use Rattle.br_store.proofs.Selects.{unchanged_keeps}
@@ -44,7 +44,7 @@ returns-clause-rows g c clean =
     let b = state g.S.Store c.ready.new.conn in
     let clean_b : HasCleanDisk b = omega (arith, clean, c.catalogue_rows-rows.ensures.survives.clean) in
     let same = c.ready.ensures.same clean_b (c.in_ok-ready.ensures.open clean_b) in
-    IfOk-weaker c.catalogue_rows-rows.result _ _ (λ rows is. is ∙ ap (λ (db : Database). rows_in db.trees) same.1) (c.catalogue_rows-rows.ensures.rows clean)
+    IfOk-weaker c.catalogue_rows-rows.result _ _ (λ rows is. is ∙ ap (λ (db : Database). looked_at c.args.wanted (rows_in db.trees)) same.1) (c.catalogue_rows-rows.ensures.rows clean)
 
 pub returns-clause-open : goal.returns-clause-open
 returns-clause-open g c clean = on_ok_weaker c.catalogue_rows-rows.result (λ same. same.0.is_open) (c.catalogue_rows-rows.ensures.same clean)

@@ -4,9 +4,9 @@ use Rattle.sqlite.specs.State.{Survives}
 use Rattle.br_model.specs.Answer.{IsRefusal}
 use Rattle.br_catalog_rows.specs.Fault.{cause, rows_cause}
 use Rattle.br_catalog_rows.specs.Load.{read_history}
-use Rattle.br_store.specs.Held.{rows_of}
+use Rattle.br_store.specs.Held.{looked_at, rows_of}
 use Rattle.br_store.proofs.Loads.{refused_by_rows}
-use Rattle.br_store.proofs.store.Store.load_history.Goals as goal
+use Rattle.br_store.proofs.store.Store.load.Goals as goal
 
 pub returns-in-Ok-clause-same : goal.returns-in-Ok-clause-same
 returns-in-Ok-clause-same g c clean up =
@@ -26,12 +26,12 @@ returns-clause-survives g c = subst (λ h. Survives (state g.S.Store h) (state g
 
 pub returns-in-Ok-clause-answers : goal.returns-in-Ok-clause-answers
 returns-in-Ok-clause-answers g c clean =
-    sym (ap read_history (c.in_ok-rows.ensures.rows clean ∙ ap (rows_of g.S.Store) c.self.view_is)) ∙ c.in-Ok.ensures
+    sym (ap read_history (c.in_ok-rows.ensures.rows clean ∙ ap (λ h. looked_at c.args.wanted (rows_of g.S.Store h)) c.self.view_is)) ∙ c.in-Ok.ensures
 
 pub returns-clause-answers : goal.returns-clause-answers
 returns-clause-answers g c clean =
-    let rows = c.in_ok-rows.ensures.rows clean ∙ ap (rows_of g.S.Store) c.self.view_is in
-    let h = read_history (rows_of g.S.Store c.args.self.now) in
+    let rows = c.in_ok-rows.ensures.rows clean ∙ ap (λ h. looked_at c.args.wanted (rows_of g.S.Store h)) c.self.view_is in
+    let h = read_history (looked_at c.args.wanted (rows_of g.S.Store c.args.self.now)) in
     let refused = subst (λ r. IsRefusal (rows_cause c.in-Err.fault) (read_history r)) rows c.in-Err.ensures in
     subst (λ e. IsRefusal (cause e) h) (sym c.store_fault.ensures.same) (refused_by_rows c.in-Err.fault h refused)
 
