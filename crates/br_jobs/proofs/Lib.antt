@@ -1,2 +1,3 @@
 mod LineLaws
 mod VolumeLaws
+mod ListedLaws

@@ -5,3 +5,4 @@ pub mod LocalTime
 pub mod PurgedJobs
 pub mod JobMarks
 pub mod JobNumbers
+pub mod ListedFiles
