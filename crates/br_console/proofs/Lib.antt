@@ -8,3 +8,4 @@ pub mod DialogueLaws
 pub mod FixedLaws
 pub mod DrivenLaws
 pub mod LineLaws
+pub mod ChoiceAloneLaws

@@ -49,6 +49,11 @@ RunsMeanSelection =
     → RestoresAll jobs (selection (view_of chosen) marks) (begun (rows_of_jobs jobs) q text).text (console_run (rows_of_jobs jobs) q text later)
     (begun (rows_of_jobs jobs) q text).is_clean
 
+-- A law: what a run does depends on the choice alone, whatever else the history has.
+abbrev pub RunsDependOnChoice : Type 0
+RunsDependOnChoice =
+    (history other : List JobRows) (q : Request) (text : List ℕ) → choose other q ≡ choose history q → begun other q text ≡ begun history q text
+
 -- ---- over drives that show more
 
 -- a drive reports its volumes, and they extend these

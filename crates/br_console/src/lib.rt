@@ -42,5 +42,7 @@ pub use running::{prepare, run_console};
 pub use script::ScriptEnd;
 pub use script_fault::ScriptFault;
 pub use script_run::{run_script, run_script_over};
-pub use selecting::{drives_stand_for_plans, runs_mean_selection, runs_restore_selection};
+pub use selecting::{
+    drives_stand_for_plans, runs_depend_on_choice, runs_mean_selection, runs_restore_selection,
+};
 pub use talking::converse;

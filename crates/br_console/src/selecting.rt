@@ -1,5 +1,5 @@
 //! The purpose of a run of the console.
-ghost use Rattle.br_console.specs.Selecting.{DrivesStandForPlans, RunsMeanSelection, RunsRestoreSelection};
+ghost use Rattle.br_console.specs.Selecting.{DrivesStandForPlans, RunsDependOnChoice, RunsMeanSelection, RunsRestoreSelection};
 
 use br_model::plan_means_selection;
 
@@ -9,6 +9,12 @@ pub fn runs_mean_selection()
 {
     plan_means_selection();
 }
+
+/// A run of the console depends on the choice alone: whatever else is in the history, dialogue, plan
+/// and names are the same.
+pub fn runs_depend_on_choice()
+    ensures { RunsDependOnChoice }
+{}
 
 /// Drives that show more than the volumes that hold the chosen jobs may be taken to show these.
 pub fn drives_stand_for_plans()
