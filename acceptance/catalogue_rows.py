@@ -245,9 +245,11 @@ class World:
             return
         asked = job["client"], job["fileset"], job["start"] + 1
         words = ["--volumes", str(self.volumes), "--client", job["client"].decode(), "--fileset", job["fileset"].decode()]
-        found = self.run("console", *words, "--before", moment(asked[2]), lines=ASKED)
-        if found != (expected := consoled(self.jobs, volumes, asked, ASKED)):
-            raise BadRow(f"console gave {found}, and not {expected}")
+        expected = consoled(self.jobs, volumes, asked, ASKED)
+        for more in ([], ["--verify-catalogue"]):
+            found = self.run("console", *words, "--before", moment(asked[2]), *more, lines=ASKED)
+            if found != expected:
+                raise BadRow(f"console gave {found}, and not {expected}")
 
     def fit(self):
         """Makes each volume as long as the catalogue vouches for: bytes that no job vouches for are cut, and the others are zeros."""

@@ -25,6 +25,7 @@ import threading
 sys.dont_write_bytecode = True
 sys.path.insert(0, os.path.join(os.path.dirname(os.path.dirname(os.path.abspath(__file__))), "tools"))
 from bacula_rows import MariaDb, Postgres, Sqlite
+from chosen_files import both_ways
 from common import PROGRAM, ROOT, Checks
 
 SCRIPT = os.path.join(ROOT, "catalogue", "import.sh")
@@ -558,6 +559,8 @@ def imports(checks, name, source, is_old, folder):
     checks.check(title, (ran, differences(rows_of(db), wanted) if ran[0] == 0 else None), ((0, text, ""), {}))
     checks.check("leaves nothing else", [it for it in os.listdir(folder) if it.startswith("new.db")], ["new.db"] if ran[0] == 0 else [])
     if ran[0] == 0:
+        if isinstance(source, Sqlite) and not is_old:
+            both_ways(checks, title, db)
         os.remove(db)
 
 

@@ -2,10 +2,10 @@
 """Measures the catalogue: the jobs of a client loaded from an SQLite file by `brestore console`.
 
 The script makes a catalogue of a Full of 100,000 and of 1,000,000 paths by SQLite itself, by
-Python's module, and has the program read it twice. A request for a client that no job names is
-refused when all jobs are loaded: that run is the load. The other run answers `count` and ends by
-`quit`, so it also builds the view and its tree. Beside them SQLite itself reads the rows by the
-joined selects that the program uses. All are printed in seconds of the processor.
+Python's module, and has the program read it twice. With `--verify-catalogue` a request for a client
+that no job names is refused when all jobs are loaded: that run is the load. The other run answers
+`count` and ends by `quit`, so it also builds the view and its tree. Beside them SQLite itself reads
+the rows by the joined selects that the program uses. All are printed in seconds of the processor.
 
     bench/loading.py                    100,000 and 1,000,000 paths
     bench/loading.py --paths N ..       these
@@ -120,13 +120,13 @@ def select(file):
     return time.process_time() - start, count
 
 
-def run(program, file, folder, client, lines):
+def run(program, file, folder, client, lines, *more):
     """Returns the processor's seconds of a console session, its peak memory in bytes, its status and all that it printed."""
     names = [os.path.join(folder, name) for name in ("lines", "out", "err")]
     with open(names[0], "w") as text:
         text.write(lines)
     words = [program, "console", "--db", file, "--volumes", folder, "--client", client, "--fileset", "home"]
-    words = ["sh", "-c", 'exec "$@" < "$0"', names[0], *words, "--before", "2026-01-01 00:00:00"]
+    words = ["sh", "-c", 'exec "$@" < "$0"', names[0], *words, "--before", "2026-01-01 00:00:00", *more]
     _, memory, seconds, status = run_measured(words, *names[1:])
     printed = ""
     for name in names[1:]:
@@ -140,7 +140,7 @@ def measure(program, paths, folder):
     file = os.path.join(folder, f"{paths}.db")
     make(file, paths)
     read_by, count = select(file)
-    load, most, *refused = run(program, file, folder, "nobody", "quit\n")
+    load, most, *refused = run(program, file, folder, "nobody", "quit\n", "--verify-catalogue")
     begin, peak, *counted = run(program, file, folder, "mars", "count\nquit\n")
     is_right = count == paths + 2 and refused == [1, "refused 53\n"] and counted == [0, f"{paths} paths, 0 marked\n"]
     print(f"{paths} paths: {'right' if is_right else f'WRONG: {count} rows, {refused}, {counted}'}")

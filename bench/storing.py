@@ -90,10 +90,12 @@ def serve(program, script, folder, words):
         return seconds, memory, (status, text.read())
 
 
-def load(program, catalogue, folder):
-    """Has a console load the catalogue. Returns the processor's seconds, the peak memory, and what was printed."""
+def load(program, catalogue, folder, version):
+    """Has a console load the catalogue, with all rows of files. Returns the processor's seconds, the peak memory, and what was printed."""
     told, errors = os.path.join(folder, "told"), os.path.join(folder, "errors")
     words = ["console", "--db", catalogue, "--volumes", folder, "--client", "nobody", "--fileset", "home", "--before", "2026-01-01 00:00:00"]
+    # An older program looks at all rows, and does not know the option.
+    words += ["--verify-catalogue"] if version == 2 else []
     _, memory, seconds, status = run_measured(["sh", "-c", 'exec "$@" < /dev/null', "sh", program, *words], told, errors)
     with open(errors) as text:
         return seconds, memory, (status, text.read())
@@ -128,7 +130,7 @@ class Program:
         with_files, most, printed = serve(self.file, script, folder, ["--db", catalogue, "--volumes", volumes])
         in_memory, _, also = serve(self.file, script, folder, [])
         stored = (0, "".join(f"stored {job}\n" for job in range(1, options.jobs + 1)))
-        seconds, peak, refused = load(self.file, catalogue, folder)
+        seconds, peak, refused = load(self.file, catalogue, folder, self.version)
         self.inserting.append((with_files - in_memory, with_files))
         self.loading.append(seconds)
         self.peaks = [max(self.peaks[0], most), max(self.peaks[1], peak)]

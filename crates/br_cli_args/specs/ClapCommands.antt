@@ -71,6 +71,7 @@ console_app =
     value_rule (codes "client") true ∷
     value_rule (codes "fileset") true ∷
     value_rule (codes "before") true ∷
+    flag_rule (codes "verify-catalogue") ∷
     []))
 
 -- `check --bsr FILE --volumes DIR` with the optional `--checksums` and `--memory SIZE`
@@ -83,8 +84,8 @@ check_app =
     memory_rule (codes "memory") ∷
     [])
 
--- `jobs --db FILE` with the optional `--client NAME`, `--fileset NAME`, `--before MOMENT` and
--- `--local`
+-- `jobs --db FILE` with the optional `--client NAME`, `--fileset NAME`, `--before MOMENT`,
+-- `--verify-catalogue` and `--local`
 unfoldable pub jobs_app : App
 jobs_app =
     command_with (codes "jobs")
@@ -92,6 +93,7 @@ jobs_app =
     value_rule (codes "client") false ∷
     value_rule (codes "fileset") false ∷
     value_rule (codes "before") false ∷
+    flag_rule (codes "verify-catalogue") ∷
     flag_rule (codes "local") ∷
     [])
 

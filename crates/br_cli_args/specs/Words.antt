@@ -28,6 +28,8 @@ use Rattle.br_types.specs.declared.wanted.Stops.{Stops}
 use Rattle.br_types.specs.declared.wanted.Stops.TheVariants as stops
 use Rattle.br_cli_common.specs.declared.options.Progress.{Progress}
 use Rattle.br_cli_common.specs.declared.options.Progress.TheVariants as progress
+use Rattle.br_cli_common.specs.declared.options.FileRows.{FileRows}
+use Rattle.br_cli_common.specs.declared.options.FileRows.TheVariants as file_rows
 use Rattle.br_cli_common.specs.declared.options.Syncs.{Syncs}
 use Rattle.br_cli_common.specs.declared.options.Syncs.TheVariants as syncs
 use Rattle.br_cli_common.specs.declared.options.Invocation.{Invocation}
@@ -46,18 +48,19 @@ pub data Goal : Type 0 where
 -- folder of the volumes and the memory. A bootstrap's file, the folder of the volumes, the target
 -- of the files, the number of drives, the memory, the further wishes, what the folder may hold,
 -- whether files are synced, whether progress is shown, and the file of a log, if there is one. A
--- catalogue's file, the folder of the volumes, client, file set and moment, the target of the files,
--- the number of drives, the memory, whether files are synced, whether progress is shown, and the
--- file of a log, if there is one. A bootstrap's file, the folder of the volumes, what is done with
--- checksums, and the memory. A catalogue's file; client, file set and moment of jobs, each if it is
--- given; and the zones in which moments are shown. A catalogue's file. A number. All numbers.
+-- catalogue's file, the folder of the volumes, client, file set and moment, the rows of files that
+-- are looked at, the target of the files, the number of drives, the memory, whether files are synced,
+-- whether progress is shown, and the file of a log, if there is one. A bootstrap's file, the folder
+-- of the volumes, what is done with checksums, and the memory. A catalogue's file; client, file set
+-- and moment of jobs, each if it is given; the rows of files that are looked at; and the zones in
+-- which moments are shown. A catalogue's file. A number. All numbers.
 pub data Asked : Type 0 where
   Serve : ℕ → Asked
   ServeFiles : Text → Text → ℕ → Asked
   Extract : Text → Text → Goal → ℕ → ℕ → Wanted → Start → Syncs → Progress → Option Text → Asked
-  Console : Text → Text → Text → Text → Text → Goal → ℕ → ℕ → Syncs → Progress → Option Text → Asked
+  Console : Text → Text → Text → Text → Text → FileRows → Goal → ℕ → ℕ → Syncs → Progress → Option Text → Asked
   Check : Text → Text → Checksums → ℕ → Asked
-  Jobs : Text → Option Text → Option Text → Option Text → Clock → Asked
+  Jobs : Text → Option Text → Option Text → Option Text → FileRows → Clock → Asked
   Migrate : Text → Asked
   Explain : ℕ → Asked
   ExplainAll : Asked
@@ -80,9 +83,9 @@ asked (commands.ServeFiles o) = ServeFiles o.db.now o.volumes.now o.memory
 asked (commands.Extract o) =
     Extract o.bsr.now o.volumes.now (target o.target) o.drives o.memory o.wanted o.start o.syncs o.progress (text_of o.log)
 asked (commands.Console o) =
-    Console o.db.now o.volumes.now o.client.now o.fileset.now o.before.now (target o.target) o.drives o.memory o.syncs o.progress (text_of o.log)
+    Console o.db.now o.volumes.now o.client.now o.fileset.now o.before.now o.file_rows (target o.target) o.drives o.memory o.syncs o.progress (text_of o.log)
 asked (commands.Check o) = Check o.bsr.now o.volumes.now o.checksums o.memory
-asked (commands.Jobs o) = Jobs o.db.now (text_of o.client) (text_of o.fileset) (text_of o.before) o.clock
+asked (commands.Jobs o) = Jobs o.db.now (text_of o.client) (text_of o.fileset) (text_of o.before) o.file_rows o.clock
 asked (commands.Migrate db) = Migrate db.now
 asked (commands.Explain number) = Explain number
 asked commands.ExplainAll = ExplainAll
@@ -167,6 +170,14 @@ syncs_by is_synced = if is_synced then syncs.Each else syncs.Never
 unfoldable pub syncs_asked : List Row → Syncs
 syncs_asked rows = syncs_by (is_given (codes "sync") rows)
 
+-- which rows of files are looked at: all with `--verify-catalogue`
+abbrev pub file_rows_by : Bool → FileRows
+file_rows_by is_verified = if is_verified then file_rows.All else file_rows.Needed
+
+-- the same by the values that were found for the options
+unfoldable pub file_rows_asked : List Row → FileRows
+file_rows_asked rows = file_rows_by (is_given (codes "verify-catalogue") rows)
+
 -- whether a terminal shows the progress of a restore: unless `--quiet` is given
 abbrev pub progress_by : Bool → Progress
 progress_by is_quiet = if is_quiet then progress.Quiet else progress.Shown
@@ -237,7 +248,7 @@ console_asked rows =
     option_and_then (λ before.
     option_and_then (λ goal.
     option_and_then (λ drives.
-    option_map (λ memory. Console db volumes client fileset before goal drives memory (syncs_asked rows) (progress_asked rows) (log_asked rows)) (memory_asked rows))
+    option_map (λ memory. Console db volumes client fileset before (file_rows_asked rows) goal drives memory (syncs_asked rows) (progress_asked rows) (log_asked rows)) (memory_asked rows))
     (drives_asked rows))
     (target_asked rows))
     (first_of (codes "before") rows))
@@ -266,7 +277,7 @@ clock_asked rows = clock_by (is_given (codes "local") rows)
 unfoldable pub jobs_asked : List Row → Option Asked
 jobs_asked rows =
     option_map
-    (λ db. Jobs db (first_of (codes "client") rows) (first_of (codes "fileset") rows) (first_of (codes "before") rows) (clock_asked rows))
+    (λ db. Jobs db (first_of (codes "client") rows) (first_of (codes "fileset") rows) (first_of (codes "before") rows) (file_rows_asked rows) (clock_asked rows))
     (first_of (codes "db") rows)
 
 -- the command `serve` by the values of `--db` and `--volumes`, which have to be given together, and

@@ -43,6 +43,14 @@ const MEMORY: OptionRow = OptionRow {
     help: "The memory for data: bytes, or a number with K, M, G or T; what is beyond it is read again",
 };
 
+/// The option for the rows of the catalogue that are looked at.
+const VERIFY_CATALOGUE: OptionRow = OptionRow {
+    name: "verify-catalogue",
+    value: "",
+    takes: ValueKind::Nothing,
+    help: "Checks all rows of files in the catalogue, and not only those of the jobs that are needed",
+};
+
 /// The options of every restore.
 const RESTORING: [OptionRow; 7] = [
     OptionRow {
@@ -116,7 +124,7 @@ const CHOICES: [OptionRow; 4] = [
 const EXTRACT: [OptionRow; 2] = [BSR, VOLUMES];
 
 /// The options that only `console` has.
-const CONSOLE: [OptionRow; 5] = [
+const CONSOLE: [OptionRow; 6] = [
     DB,
     VOLUMES,
     OptionRow {
@@ -137,6 +145,7 @@ const CONSOLE: [OptionRow; 5] = [
         takes: ValueKind::Needed,
         help: "Uses only jobs that began before YYYY-MM-DD HH:MM:SS, in UTC",
     },
+    VERIFY_CATALOGUE,
 ];
 
 /// The options of `check`.
@@ -153,7 +162,7 @@ const CHECK: [OptionRow; 4] = [
 ];
 
 /// The options of `jobs`.
-const JOBS: [OptionRow; 5] = [
+const JOBS: [OptionRow; 6] = [
     DB,
     OptionRow {
         name: "client",
@@ -173,6 +182,7 @@ const JOBS: [OptionRow; 5] = [
         takes: ValueKind::Value,
         help: "Lists only jobs that began before YYYY-MM-DD HH:MM:SS, in UTC",
     },
+    VERIFY_CATALOGUE,
     OptionRow {
         name: "local",
         value: "",

@@ -6,7 +6,7 @@ ghost use Rattle.br_cli_args.specs.ClapCommands.{program_app};
 ghost use Rattle.br_cli_common.specs.Options.{AreFew, HasDrives};
 ghost use Rattle.br_cli_args.specs.Words.{copies_asked, copies_by, gaps_asked, gaps_by, is_given, wanted_asked};
 ghost use Rattle.br_cli_args.specs.Words.{checksums_asked, checksums_by, progress_asked, progress_by, stops_asked, stops_by};
-ghost use Rattle.br_cli_args.specs.Words.{syncs_asked, syncs_by};
+ghost use Rattle.br_cli_args.specs.Words.{file_rows_asked, file_rows_by, syncs_asked, syncs_by};
 ghost use Rattle.br_cli_args.specs.Words.{clock_asked, clock_by, start_asked, start_by, start_for};
 ghost use Rattle.br_cli_args.specs.Words.{is_no_size, memory_asked};
 ghost use Rattle.br_cli_args.specs.Words.{AsksFor, MissesBy, asked, asked_by, words_asked, words_fault, words_kind};
@@ -17,8 +17,8 @@ ghost use Rattle.br_cli_args.specs.Words.{kind_by, kind_in, tar_target, target, 
 use crate::byte_size::read_size;
 use crate::command_table::{error_of, program};
 use br_cli_common::{
-    CheckOptions, Checksums, Clock, ConsoleOptions, ExtractOptions, Invocation, JobsOptions,
-    Progress, ServeOptions, Syncs, Target,
+    CheckOptions, Checksums, Clock, ConsoleOptions, ExtractOptions, FileRows, Invocation,
+    JobsOptions, Progress, ServeOptions, Syncs, Target,
 };
 use br_types::{Copies, Gaps, Start, Stops, Wanted};
 use clap::error::ErrorKind;
@@ -212,6 +212,25 @@ fn syncs_of(found: &ArgMatches<'_>) -> Syncs
     syncs_by(is_found(found, "sync"))
 }
 
+/// Returns which rows of files are looked at; `--verify-catalogue` decides.
+fn file_rows_by(is_verified: bool) -> FileRows
+    ensures { result ≡ file_rows_by is_verified }
+{
+    if is_verified {
+        FileRows::All
+    } else {
+        FileRows::Needed
+    }
+}
+
+/// Returns which rows of files are looked at.
+#[tactic(auto, unfolding(crate::specs::Words::file_rows_asked))]
+fn file_rows_of(found: &ArgMatches<'_>) -> FileRows
+    ensures { result ≡ file_rows_asked (rows_of (found_of found.now)) }
+{
+    file_rows_by(is_found(found, "verify-catalogue"))
+}
+
 /// Returns true if a terminal shows the progress of the restore; `--quiet` decides.
 fn progress_by(is_quiet: bool) -> Progress
     ensures { result ≡ progress_by is_quiet }
@@ -315,6 +334,7 @@ fn console_found<'a>(found: &ArgMatches<'a>) -> Option<Invocation<'a>>
         client: value_of(found, "client")?,
         fileset: value_of(found, "fileset")?,
         before: value_of(found, "before")?,
+        file_rows: file_rows_of(found),
         target: target_of(found)?,
         drives: drives_of(found)?,
         memory: memory_of(found)?,
@@ -353,6 +373,7 @@ fn jobs_found<'a>(found: &ArgMatches<'a>) -> Option<Invocation<'a>>
         client: value_of(found, "client"),
         fileset: value_of(found, "fileset"),
         before: value_of(found, "before"),
+        file_rows: file_rows_of(found),
         clock: clock_of(found),
     }))
 }

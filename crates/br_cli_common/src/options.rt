@@ -31,6 +31,15 @@ pub enum Syncs {
     Each,
 }
 
+/// The rows of files that are looked at in a catalogue.
+#[derive(Clone, Copy)]
+pub enum FileRows {
+    /// Those of the jobs whose files are needed.
+    Needed,
+    /// All.
+    All,
+}
+
 /// The options of `extract`.
 #[derive(Clone, Copy)]
 pub struct ExtractOptions<'a> {
@@ -85,6 +94,7 @@ pub struct ConsoleOptions<'a> {
     pub fileset: &'a str,
     /// The moment, as text.
     pub before: &'a str,
+    pub file_rows: FileRows,
     pub target: Target<'a>,
     /// The number of drives that read the volumes at once, from 1 to 16.
     pub drives: usize,
@@ -127,6 +137,7 @@ pub struct JobsOptions<'a> {
     pub fileset: Option<&'a str>,
     /// The moment, as text.
     pub before: Option<&'a str>,
+    pub file_rows: FileRows,
     pub clock: Clock,
 }
 

@@ -4,9 +4,9 @@ ghost use Rattle.br_model.specs.Answer.{Answers};
 ghost use Rattle.br_cli_common.specs.Options.{AreFew};
 ghost use Rattle.br_pool.specs.Pool.{AreDrives};
 ghost use Rattle.br_plan.specs.RequestWords.{cause};
-ghost use Rattle.br_keeper.specs.Catalogue.{AreJobs};
 ghost use Rattle.br_volume.specs.HostDrives.{AreOver};
 ghost use Rattle.br_cli_console.specs.AskedJobs.{request_asked};
+ghost use Rattle.br_cli_console.specs.LoadedJobs.{AreJobsOf};
 ghost use Rattle.br_cli_target.specs.AskedTarget.{folder_asked, stream_asked};
 ghost use Rattle.br_cli_console.specs.ConsoleCommandEnding.{end_line, extent, extent_by, run_refusal, run_status, status_by};
 ghost use Rattle.br_cli_console.specs.ConsoleStarting.{start_number};
@@ -16,7 +16,7 @@ ghost use Rattle.br_cli_console.specs.declared.console_command.ConsoleStartFault
 
 use crate::chosen_jobs::tell_chosen;
 use crate::helped_reader::{Helped, with_help};
-use crate::jobs_command::jobs_in;
+use crate::loaded_jobs::{ChosenFiles, jobs_in};
 use br_cli_common::{BAD_STREAM, CLEAN, ConsoleOptions, Prompted, REFUSED, Target, with_prompt};
 use br_cli_progress::{Gauge, WatchedSink, WatchedWriter};
 use br_cli_target::{
@@ -278,7 +278,7 @@ pub fn set_up_console<'r, C: Catalogue>(
 ) -> Result<ConsoleSetup<'r, ResumingSink<'r>>, ConsoleStartFault>
     ensures asked { IfOk result (λ setup. request_asked given.now ≡ Ok setup.0.request) }
     ensures into { IfOk result (λ setup. option_map (λ s. s.folder.path) setup.1.sink ≡ folder_asked given.now.target) }
-    ensures jobs { IfOk result (λ setup. AreJobs (C.jobs_at catalogue.now given.now.db.now) setup.0.history) }
+    ensures jobs { IfOk result (λ setup. AreJobsOf (C.jobs_at catalogue.now given.now.db.now) given.now.file_rows setup.0) }
     ensures memory { IfOk result (λ setup. setup.1.budget.room ≡ given.now.memory) }
     ensures drives { IfOk result (λ setup. length setup.1.drives.items ≡ given.now.drives) }
     ensures volumes { IfOk result (λ setup. AreOver given.now.volumes.now setup.1.drives.items) }
@@ -298,12 +298,13 @@ fn set_up_over<'r, C: Catalogue, S: Drop>(
 ) -> Result<ConsoleSetup<'r, S>, ConsoleStartFault>
     ensures request { IfOk result (λ setup. setup.0.request ≡ request) }
     ensures sink { IfOk result (λ setup. setup.1.sink ≡ sink) }
-    ensures jobs { IfOk result (λ setup. AreJobs (C.jobs_at catalogue.now given.now.db.now) setup.0.history) }
+    ensures jobs { IfOk result (λ setup. AreJobsOf (C.jobs_at catalogue.now given.now.db.now) given.now.file_rows setup.0) }
     ensures memory { IfOk result (λ setup. setup.1.budget.room ≡ given.now.memory) }
     ensures drives { IfOk result (λ setup. length setup.1.drives.items ≡ given.now.drives) }
     ensures volumes { IfOk result (λ setup. AreOver given.now.volumes.now setup.1.drives.items) }
 {
-    let history = jobs_in(rt, catalogue, given.db)?;
+    let needs = ChosenFiles { request: &request };
+    let history = jobs_in(rt, catalogue, given.db, given.file_rows, &needs)?;
     let restore = restore_over(rt, given.volumes, given.drives, given.memory, sink)?;
     Ok((ConsoleJobs { history, request }, restore))
 }
@@ -405,7 +406,7 @@ fn set_up_tar_file<'r, C: Catalogue>(
 ) -> Result<ConsoleSetup<'r, TarSink<BufWriter<File>>>, ConsoleStartFault>
     ensures asked { IfOk result (λ setup. request_asked given.now ≡ Ok setup.0.request) }
     ensures sink { IfOk result (λ setup. IsSome setup.1.sink) }
-    ensures jobs { IfOk result (λ setup. AreJobs (C.jobs_at catalogue.now given.now.db.now) setup.0.history) }
+    ensures jobs { IfOk result (λ setup. AreJobsOf (C.jobs_at catalogue.now given.now.db.now) given.now.file_rows setup.0) }
     ensures memory { IfOk result (λ setup. setup.1.budget.room ≡ given.now.memory) }
     ensures drives { IfOk result (λ setup. length setup.1.drives.items ≡ given.now.drives) }
     ensures volumes { IfOk result (λ setup. AreOver given.now.volumes.now setup.1.drives.items) }
@@ -424,7 +425,7 @@ fn set_up_tar_output<'r, C: Catalogue>(
 ) -> Result<ConsoleSetup<'r, TarSink<BufWriter<Printer<'r, HostRuntime>>>>, ConsoleStartFault>
     ensures asked { IfOk result (λ setup. request_asked given.now ≡ Ok setup.0.request) }
     ensures sink { IfOk result (λ setup. IsSome setup.1.sink) }
-    ensures jobs { IfOk result (λ setup. AreJobs (C.jobs_at catalogue.now given.now.db.now) setup.0.history) }
+    ensures jobs { IfOk result (λ setup. AreJobsOf (C.jobs_at catalogue.now given.now.db.now) given.now.file_rows setup.0) }
     ensures memory { IfOk result (λ setup. setup.1.budget.room ≡ given.now.memory) }
     ensures drives { IfOk result (λ setup. length setup.1.drives.items ≡ given.now.drives) }
     ensures volumes { IfOk result (λ setup. AreOver given.now.volumes.now setup.1.drives.items) }

@@ -2,15 +2,15 @@ ghost use Rattle.std.specs.Prelude.{◌≡◌, ◌⊎◌, not, IfOk};
 ghost use Rattle.br_model.specs.Text.{is_empty};
 ghost use Rattle.br_jobs.specs.JobMarks.{marks};
 ghost use Rattle.br_cli_console.specs.ChosenJobs.{list_status, warned_status};
-ghost use Rattle.br_keeper.specs.Catalogue.{AreJobs};
+ghost use Rattle.br_cli_console.specs.LoadedJobs.{lists_all, rows_for};
 
+use crate::loaded_jobs::jobs_in;
 use crate::time_zone::SystemZones;
-use br_cli_common::{CLEAN, Clock, JobsOptions, REFUSED, is_shown, refuse_start};
+use br_cli_common::{CLEAN, Clock, FileRows, JobsOptions, REFUSED, is_shown, refuse_start};
 use br_history::History;
 use br_jobs::{Filter, Zones, list_jobs, marked_lines};
-use br_keeper::{Catalogue, CatalogueFault};
+use br_keeper::Catalogue;
 use br_plan::{BadMoment, read_moment};
-use std::fs;
 use std::io::{self, IsTerminal, Write};
 
 /// Returns the choice of jobs in these options.
@@ -24,29 +24,6 @@ fn filter_of<'a>(given: &JobsOptions<'a>) -> Result<Filter<'a>, BadMoment> {
         fileset: given.fileset,
         before,
     })
-}
-
-/// Loads the jobs in the file of a catalogue, if the file is there and has bytes: a catalogue has
-/// tables, and a file without bytes has none.
-pub(crate) fn jobs_in<C: Catalogue>(
-    rt: &HostRuntime,
-    catalogue: &C,
-    db: &str,
-) -> Result<History, CatalogueFault>
-    ensures jobs { IfOk result (λ history. AreJobs (C.jobs_at catalogue.now db.now) history) }
-{
-    // No catalogue is opened for a file that does not exist.
-    if fs::metadata(rt, db).is_err() {
-        return Err(CatalogueFault::Unreadable);
-    }
-    let history = catalogue.load(db)?;
-    // While a catalogue is made, its file may be empty: the load waits for that.
-    let len = fs::metadata(rt, db).map_or(0, |found| found.len());
-    if len == 0 {
-        Err(CatalogueFault::Unreadable)
-    } else {
-        Ok(history)
-    }
 }
 
 /// The heads of the columns of a list, with moments in UTC alone and in the zone of the system, too.
@@ -70,8 +47,21 @@ fn print_lines(rt: &HostRuntime, zones: &Zones<'_>, text: &[u8]) -> io::Result<(
 }
 
 /// Returns true if all jobs are asked for.
-fn asks_for_all(filter: &Filter<'_>) -> bool {
+fn asks_for_all(filter: &Filter<'_>) -> bool
+    ensures { result ≡ lists_all filter.now }
+{
     filter.client.is_none() && filter.fileset.is_none() && filter.before.is_none()
+}
+
+/// Returns which rows of files are looked at: all if all jobs are asked for, since each is counted.
+fn rows_for(filter: &Filter<'_>, file_rows: FileRows) -> FileRows
+    ensures { result ≡ rows_for filter.now file_rows }
+{
+    if asks_for_all(filter) {
+        FileRows::All
+    } else {
+        file_rows
+    }
 }
 
 /// Prints to standard error why no job is listed, if there is no line and standard error is a
@@ -151,7 +141,8 @@ pub fn list<C: Catalogue>(
         Ok(filter) => filter,
         Err(fault) => return refuse_start(rt, fault.number()),
     };
-    let history = match jobs_in(rt, catalogue, given.db) {
+    let file_rows = rows_for(&filter, given.file_rows);
+    let history = match jobs_in(rt, catalogue, given.db, file_rows, &filter) {
         Ok(history) => history,
         Err(fault) => return refuse_start(rt, fault.number()),
     };

@@ -14,6 +14,7 @@ mod dir_lines;
 mod help_text;
 mod helped_reader;
 mod jobs_command;
+mod loaded_jobs;
 mod local_command;
 mod time_zone;
 mod working_folder;
@@ -25,4 +26,5 @@ pub use console_command::{
 pub use dir_lines::{Named, push_name};
 pub use helped_reader::{Helped, with_help};
 pub use jobs_command::list;
+pub use loaded_jobs::sessions_are_alike;
 pub use local_command::{LocalCommand, asked_of};
