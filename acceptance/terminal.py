@@ -401,6 +401,39 @@ def lists(checks, folder):
     checks.check("none at a terminal", play(checks.program, none, [], folder, prints=True)[:2], (0, [NO_JOB]))
 
 
+# Changes of a catalogue, and what is wrong with its rows then.
+WRONG = (
+    ("UPDATE Job SET Level = 'FF' WHERE JobId = 2", "row 2 of Job, in order of JobId: Level cannot be read"),
+    ("UPDATE Client SET Name = 'a/b'", "row 1 of Job, in order of JobId: Name of its Client cannot be read"),
+    ("UPDATE JobMedia SET VolIndex = -1 WHERE JobId = 3", "row 3 of JobMedia, in order of JobMediaId: VolIndex cannot be read"),
+    ("UPDATE File SET LStat = x'ff' WHERE FileId = 6", "row 6 of File, in order of FileId: LStat cannot be read"),
+    ("UPDATE File SET MD5 = 'CA' WHERE FileId = 7", "row 7 of File, in order of FileId: MD5 cannot be read"),
+    ("UPDATE Path SET Path = CAST('tmp/' AS BLOB) WHERE PathId = 2", "row 5 of File, in order of FileId: Path of its Path with Filename cannot be read"),
+    ("UPDATE File SET FileId = 9, MD5 = '1' WHERE FileId = 1", "row 7 of File, in order of FileId: MD5 cannot be read"),
+    ("UPDATE JobMedia SET FirstIndex = 6 WHERE JobId = 1", "rows of job 1 contradict each other"),
+)
+
+
+def says_rows(checks, folder):
+    """Catalogues of which a row is wrong: which one is told at a terminal alone."""
+    for at, (change, wrong) in enumerate(WRONG):
+        db, into = os.path.join(folder, f"wrong{at}.db"), os.path.join(folder, f"wrong{at}")
+        os.mkdir(into)
+        with open(ORDER_SQL) as text:
+            subprocess.run(["sqlite3", db], input=f"{text.read()}\n{change};\n", text=True, check=True)
+        wanted = (1, [*told(47), wrong], "")
+        jobs = ["jobs", "--db", db, "--verify-catalogue"]
+        checks.check(f"jobs: {change}", play(checks.program, jobs, [], folder), wanted)
+        checks.check(f"console: {change}", play(checks.program, console_words(db, into), [], folder), wanted)
+        log = os.path.join(folder, f"wrong{at}.log")
+        quiet = subprocess.run([checks.program, *console_words(db, into), "--log", log], stdin=subprocess.DEVNULL, capture_output=True, text=True)
+        checks.check(f"off a terminal: {change}", (quiet.returncode, quiet.stderr, quiet.stdout), (1, "refused 47\n", ""))
+        with open(log) as lines:
+            checks.check(f"and in the log: {change}", wrong in lines.read(), True)
+        served = play(checks.program, ["serve", "--db", db, "--volumes", into], [], folder)
+        checks.check(f"serve: {change}", served, wanted)
+
+
 def waits(checks, folder):
     """The program without a command."""
     status, shown, printed = play(checks.program, [], [(f"{AWAITED}\n", "\x04")], folder)
@@ -416,7 +449,7 @@ def main():
     folder = tempfile.mkdtemp(prefix="brestore-terminal-")
     telling = (partial(tells, again=options.again), partial(tells_a_session, again=options.again))
     try:
-        for plays in (restores, asks_again, extracts, *telling, leaves_unsaid, looks, streams, lists, waits):
+        for plays in (restores, asks_again, extracts, *telling, leaves_unsaid, looks, streams, lists, says_rows, waits):
             plays(checks, folder)
     finally:
         shutil.rmtree(folder)

@@ -1,5 +1,5 @@
 -- What the catalogue in a file tells, if its disk has returned what was written to it.
-use Rattle.std.specs.Prelude.{◌≡◌, None, IsTrue}
+use Rattle.std.specs.Prelude.{◌≡◌, ℕ, List, [], ◌++◌, Option, None, MatchOption, IsTrue, codes}
 use Rattle.sqlite.specs.Effect.{Database}
 use Rattle.sqlite.specs.Held.{Held}
 use Rattle.sqlite_trees.specs.declared.store.Store.{Ghosts}
@@ -8,6 +8,9 @@ use Rattle.sqlite_disk.specs.declared.Files.{Files}
 use Rattle.sqlite_store.specs.declared.store.FileStore.{FileStore}
 use Rattle.sqlite_wal.specs.Reads.{AreClean}
 use Rattle.br_catalog_rows.specs.Rows.{Rows}
+use Rattle.br_catalog_rows.specs.WrongRows.{TellsWrong}
+use Rattle.br_catalog_rows.specs.WrongText.{wrong_text}
+use Rattle.br_catalog_rows.specs.declared.wrong_rows.WrongRows.{WrongRows}
 use Rattle.br_store.specs.Calls.{IsDurable, WhileClean}
 use Rattle.br_store.specs.Held.{rows_in, versions_in}
 use Rattle.br_store.specs.LookFolded.{IsFolded}
@@ -24,6 +27,14 @@ pub record IsOpened {S : Type 0} (g : Ghosts S) (held : Held S) : Type 0 where
 -- the claim holds of the rows that an opening of a database finds
 abbrev pub OfFoundRows : Database → (Rows → Type 0) → Type 0
 OfFoundRows before claim = (found : Database) × Finds before found × claim (rows_in found.trees)
+
+-- the line that says what is wrong; nothing if nothing is
+abbrev pub wrong_line : Option WrongRows → List ℕ
+wrong_line told = MatchOption told [] (λ w. wrong_text w ++ codes "\n")
+
+-- the line says what is wrong with the rows
+abbrev pub SaysWrong : Rows → List ℕ → Type 0
+SaysWrong rows line = (told : Option WrongRows) × TellsWrong rows told × (line ≡ wrong_line told)
 
 module _ {D : Type 0} {g : disk.Ghosts D} where
   -- If both files read as they were written, the log is empty, and the database file alone holds all

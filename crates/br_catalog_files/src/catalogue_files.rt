@@ -6,7 +6,7 @@ ghost use Rattle.sqlite.specs.Held.{state};
 ghost use Rattle.sqlite.specs.Steps.{IsFresh};
 ghost use Rattle.sqlite_store.specs.FileStore.{view};
 ghost use Rattle.sqlite_trees.specs.View.{IsClean};
-ghost use Rattle.br_catalog_files.specs.FileCatalogue.{IsClosed, IsOpened, OfFoundRows};
+ghost use Rattle.br_catalog_files.specs.FileCatalogue.{IsClosed, IsOpened, OfFoundRows, SaysWrong, wrong_line};
 ghost use Rattle.br_catalog_rows.specs.Fault.{fault_number};
 ghost use Rattle.br_catalog_rows.specs.Load.{read_history, read_needed};
 ghost use Rattle.br_store.specs.Calls.{IsJustOpened, WhileClean};
@@ -14,13 +14,14 @@ ghost use Rattle.br_store.specs.Look.{look_number};
 ghost use Rattle.br_store.specs.Made.{Finds};
 ghost use Rattle.br_keeper.specs.Catalogue.{catalogue_number};
 
+use br_catalog_rows::{WrongRows, push_wrong};
 use br_history::History;
 use br_keeper::{Catalogue, CatalogueFault};
 use br_needed::Needs;
 use br_store::{HostSight, LookFault, Store, StoreFault, StoredJobs, fold, look};
 use sqlite::{Alter, Connection, File, FileStore};
 use sqlite_disk::Memory;
-use std::alloc::Global;
+use std::alloc::{AllocError, Global};
 
 /// Returns the fault of looking at a catalogue's file, as a fault of a catalogue.
 fn look_fault(fault: LookFault) -> CatalogueFault
@@ -121,6 +122,46 @@ fn load_needed<N: Needs>(rt: &HostRuntime, db: &str, needs: &N) -> Result<Histor
     match load_needed_from(rt.alloc(), look_at(rt, db)?, needs) {
         Ok((history, _conn)) => Ok(history),
         Err(fault) => Err(catalogue_fault(fault)),
+    }
+}
+
+/// Returns the line that says what is wrong; nothing if nothing is.
+fn line_of(alloc: Global, told: Option<WrongRows>) -> Result<Vec<u8>, AllocError>
+    ensures { IfOk result (λ line. line.items ≡ wrong_line told) }
+{
+    let mut line = Vec::new(alloc);
+    if let Some(wrong) = told {
+        push_wrong(&mut line, wrong)?;
+        line.extend_from_slice(b"\n")?;
+    }
+    Ok(line)
+}
+
+/// Returns what is wrong with the rows of a catalogue, as a line; nothing if they form a history.
+/// Returns its connection, too.
+fn wrong_in<S: Alter + Drop>(
+    alloc: Global,
+    conn: Connection<S>,
+) -> Result<(Vec<u8>, Connection<S>), StoreFault>
+    requires { IsJustOpened S.Store conn }
+    ensures { IfOk result (λ r. WhileClean S.Store r.1 (λ _.
+        OfFoundRows (state S.Store conn).committed (λ rows. SaysWrong rows r.0.items))) }
+{
+    let mut store = opened(alloc, conn)?;
+    let told = store.find_wrong()?;
+    let line = line_of(alloc, told)?;
+    Ok((line, store.into_connection()))
+}
+
+/// Returns what is wrong with the rows in the file of a catalogue, as a line; nothing if they form a
+/// history or cannot be read.
+fn wrong_rows(rt: &HostRuntime, db: &str) -> Vec<u8> {
+    match look_at(rt, db) {
+        Ok(conn) => match wrong_in(rt.alloc(), conn) {
+            Ok((line, _conn)) => line,
+            Err(_) => Vec::new(rt.alloc()),
+        },
+        Err(_) => Vec::new(rt.alloc()),
     }
 }
 
@@ -230,6 +271,10 @@ impl Catalogue for CatalogueFiles<'_> {
 
     fn load_needed<N: Needs>(&self, db: &str, needs: &N) -> Result<History, CatalogueFault> {
         load_needed(self.rt, db, needs)
+    }
+
+    fn wrong_rows(&self, db: &str) -> Vec<u8> {
+        wrong_rows(self.rt, db)
     }
 
     fn migrate(&self, db: &str) -> Result<u64, CatalogueFault> {

@@ -4,3 +4,4 @@ pub mod SpanOrder
 pub mod LoadLaws
 pub mod SomeFilesLaws
 pub mod InsertedLaws
+pub mod WrongLaws

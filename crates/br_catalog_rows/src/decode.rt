@@ -27,7 +27,12 @@ fn joined(alloc: Global, front: &[u8], rest: &[u8]) -> Result<Vec<u8>, RowsFault
 
 /// Returns the path whose two parts are in these columns.
 #[tactic(auto, unfolding(crate::specs::Decode::path_in, br_model::specs::Name::checked_path))]
-fn path_at(alloc: Global, row: &Row, front: usize, rest: usize) -> Result<Path, RowsFault>
+pub(crate) fn path_at(
+    alloc: Global,
+    row: &Row,
+    front: usize,
+    rest: usize,
+) -> Result<Path, RowsFault>
     ensures { Answers (λ p. p) rows_cause result (path_in (column row.now front) (column row.now rest)) }
 {
     let bytes = joined(alloc, blob_at(row, front)?, blob_at(row, rest)?)?;
@@ -55,7 +60,7 @@ fn digest_of(text: &[u8]) -> Result<Option<[u8; 16]>, RowsFault>
 
 /// Returns the digest in a column, or none if the text there is empty.
 #[tactic(auto, unfolding(crate::specs::Decode::digest_in))]
-fn digest_at(row: &Row, at: usize) -> Result<Option<[u8; 16]>, RowsFault>
+pub(crate) fn digest_at(row: &Row, at: usize) -> Result<Option<[u8; 16]>, RowsFault>
     ensures { Answers (λ d. d) rows_cause result (digest_in (column row.now at)) }
 {
     digest_of(text_at(row, at)?)
@@ -74,7 +79,7 @@ fn characters_of(bytes: &[u8]) -> Result<&str, RowsFault>
 
 /// Returns the characters in a column.
 #[tactic(auto, unfolding(crate::specs::Decode::string_in))]
-fn string_at(alloc: Global, row: &Row, at: usize) -> Result<String, RowsFault>
+pub(crate) fn string_at(alloc: Global, row: &Row, at: usize) -> Result<String, RowsFault>
     ensures { Answers string_bytes rows_cause result (string_in (column row.now at)) }
 {
     let text = characters_of(text_at(row, at)?)?;

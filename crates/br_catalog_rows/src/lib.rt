@@ -10,6 +10,8 @@ mod fault;
 mod laws;
 mod load;
 mod value;
+mod wrong_rows;
+mod wrong_text;
 
 pub use encode::{cut, digits_of, high_half, low_half};
 pub use fault::{RowsFault, StoreFault};
@@ -18,3 +20,5 @@ pub use laws::{
     span_is_whole,
 };
 pub use load::{CatalogueRows, history_of, is_of_any};
+pub use wrong_rows::{Table, WrongRows, find_wrong};
+pub use wrong_text::push_wrong;

@@ -48,7 +48,7 @@ fn check_version(rows: &[Row]) -> Result<(), RowsFault>
 
 /// Reads a job from each row.
 #[tactic(auto, unfolding(crate::specs::Load::read_all))]
-fn jobs_of(alloc: Global, rows: &[Row]) -> Result<Vec<JobRow>, RowsFault>
+pub(crate) fn jobs_of(alloc: Global, rows: &[Row]) -> Result<Vec<JobRow>, RowsFault>
     ensures { Answers (λ v. v.items) rows_cause result (read_all read_job rows.now) }
 {
     let mut jobs = Vec::new(alloc);
@@ -83,7 +83,10 @@ fn files_of(alloc: Global, rows: &[&Row]) -> Result<Vec<FileRow>, RowsFault>
 }
 
 /// Makes an empty list of rows for each job.
-fn places<'r>(alloc: Global, jobs: &[JobRow]) -> Result<BTreeMap<u32, Vec<&'r Row>>, AllocError>
+pub(crate) fn places<'r>(
+    alloc: Global,
+    jobs: &[JobRow],
+) -> Result<BTreeMap<u32, Vec<&'r Row>>, AllocError>
     ensures jobs { IfOk result (λ m. (id : ℕ) → has m id ≡ list_any (λ (j : Job). j.id == id) jobs.now) }
     ensures empty { IfOk result (λ m. (id : ℕ) → group_of m id ≡ []) }
 {
@@ -108,7 +111,7 @@ fn put<'r>(places: &mut BTreeMap<u32, Vec<&'r Row>>, id: u32, row: &'r Row) -> R
 
 /// Returns the rows of each job in their order. `BadRows` if a row belongs to none of these
 /// jobs.
-fn by_job<'r>(
+pub(crate) fn by_job<'r>(
     alloc: Global,
     jobs: &[JobRow],
     rows: &'r [Row],
@@ -162,7 +165,7 @@ fn sorted(mut spans: Vec<Span>) -> Result<Vec<Span>, AllocError>
 
 /// Joins a job with its spans and its files.
 #[tactic(auto, unfolding(crate::specs::Load::read_rows))]
-fn rows_of(
+pub(crate) fn rows_of(
     alloc: Global,
     row: JobRow,
     spans: &BTreeMap<u32, Vec<&Row>>,

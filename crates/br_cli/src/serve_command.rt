@@ -7,7 +7,7 @@ ghost use Rattle.br_cli.specs.declared.serve_command.ServeStartFault.TheVariants
 
 use crate::folder_volumes::FolderVolumes;
 use crate::memory_script::{flushed_end, refuse_memory};
-use br_cli_common::{ServeOptions, refuse_start};
+use br_cli_common::{ServeOptions, refuse_start, show_lines};
 use br_console::{DrivenStore, run_script_over};
 use br_engine::{Budget, Flush};
 use br_keeper::{Catalogue, CatalogueFault, JobStore, Keeper, KeeperFault, Session};
@@ -19,6 +19,9 @@ use std::os::unix::fs::OpenOptionsExt;
 use std::sync::Wait;
 use std::thread::Threads;
 use thiserror::Error;
+
+/// The number of the refusal of a catalogue whose rows form no history.
+const BAD_CATALOGUE: u32 = 47;
 
 /// Why no script began.
 #[derive(Clone, Copy, Debug, Error)]
@@ -159,6 +162,23 @@ fn make_own(rt: &HostRuntime, db: &str) {
     let _made = how.open(rt, db);
 }
 
+/// Prints why no script began, and to a terminal which row of a catalogue is wrong, if that is why.
+/// Returns the exit status.
+fn refuse_serve<C: Catalogue>(
+    rt: &HostRuntime,
+    catalogue: &C,
+    db: &str,
+    number: u32,
+) -> io::Result<u8>
+    ensures status { IfOk result (λ status. status ≡ 1) }
+{
+    let status = refuse_start(rt, number)?;
+    if number == BAD_CATALOGUE {
+        show_lines(rt, &catalogue.wrong_rows(db))?;
+    }
+    Ok(status)
+}
+
 /// Runs the lines of a reader as a script over a catalogue in a file and volumes in a folder, and
 /// writes its answers to standard output, each line as soon as it is complete. A catalogue that
 /// can't be opened (45) or loaded (47) is refused on standard error before a line is read. After
@@ -191,7 +211,7 @@ pub fn serve_by_lines<C: Catalogue, R: BufRead + Drop>(
             let (jobs, _volumes) = keeper.close(threads);
             end_serve(rt, catalogue, jobs, refuse_memory(rt, status))
         }
-        Err(fault) => refuse_start(rt, fault.number()),
+        Err(fault) => refuse_serve(rt, catalogue, given.db, fault.number()),
     }
 }
 

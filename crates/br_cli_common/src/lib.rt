@@ -33,5 +33,5 @@ pub use prompt::{Prompted, greet, is_attended, with_prompt};
 pub use refusal::{Refusal, explain, refusals_below_50, refusals_from_50};
 pub use refusal_lines::{push_with_words, push_words, refused_number};
 pub use refusal_text::push_refusals;
-pub use refusal_words::{is_shown, tell_refusal, tell_refusals};
+pub use refusal_words::{is_shown, show_lines, tell_refusal, tell_refusals};
 pub use status::{BAD_COMMAND, BAD_STREAM, CLEAN, REFUSED, refuse_start};

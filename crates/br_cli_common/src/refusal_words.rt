@@ -19,6 +19,14 @@ pub fn tell_refusal(rt: &HostRuntime, number: u32) -> io::Result<()> {
     rt.stderr().write_all(&text)
 }
 
+/// Prints lines to standard error, if that is a terminal.
+pub fn show_lines(rt: &HostRuntime, lines: &[u8]) -> io::Result<()> {
+    if !is_shown(rt) {
+        return Ok(());
+    }
+    rt.stderr().write_all(lines)
+}
+
 /// Prints to standard error, for each line `refused N` of a text, what it means and what to do
 /// next, if that is a terminal.
 pub fn tell_refusals(rt: &HostRuntime, text: &[u8]) -> io::Result<()> {

@@ -367,6 +367,22 @@ fn failed_at<'s, S>(sink: &'s Option<WatchedSink<'_, '_, S>>) -> Option<&'s Path
     }
 }
 
+/// Prints why no session began, and to a terminal and the log which row of a catalogue is wrong, if
+/// that is why. Returns the exit status.
+fn refuse_setup<C: Catalogue>(
+    rt: &HostRuntime,
+    catalogue: &C,
+    gauge: &Gauge<'_>,
+    given: &ConsoleOptions<'_>,
+    fault: &ConsoleStartFault,
+) -> io::Result<u8> {
+    let status = refuse_place(rt, gauge, given.target, fault.number())?;
+    if let ConsoleStartFault::Catalogue(CatalogueFault::BadCatalogue) = fault {
+        gauge.tell_lines(catalogue.wrong_rows(given.db))?;
+    }
+    Ok(status)
+}
+
 /// Restores by lines into a folder, or prints the manifest alone if there is none.
 fn restore_into<C: Catalogue>(
     rt: &HostRuntime,
@@ -381,7 +397,7 @@ fn restore_into<C: Catalogue>(
     let writer = BufWriter::new(rt.alloc(), io::writer(rt))?;
     let (jobs, restore) = match set_up_console(rt, catalogue, given) {
         Ok(setup) => setup,
-        Err(fault) => return refuse_place(rt, gauge, given.target, fault.number()),
+        Err(fault) => return refuse_setup(rt, catalogue, gauge, given, &fault),
     };
     let mut restore = with_watched_sink(with_watched_drives(restore, gauge)?, gauge);
     let asked = jobs.selection(rt.alloc());
@@ -518,14 +534,14 @@ fn restore_told<C: Catalogue>(
             let answers = BufWriter::new(rt.alloc(), io::writer(rt))?;
             match set_up_tar_file(rt, catalogue, given, path) {
                 Ok(setup) => restore_onto(threads, watch, given, setup, answers),
-                Err(fault) => refuse_place(rt, gauge, given.target, fault.number()),
+                Err(fault) => refuse_setup(rt, catalogue, gauge, given, &fault),
             }
         }
         Target::TarOutput => {
             let answers = BufWriter::new(rt.alloc(), rt.stderr())?;
             match set_up_tar_output(rt, catalogue, given) {
                 Ok(setup) => restore_onto(threads, watch, given, setup, answers),
-                Err(fault) => refuse_place(rt, gauge, given.target, fault.number()),
+                Err(fault) => refuse_setup(rt, catalogue, gauge, given, &fault),
             }
         }
     }

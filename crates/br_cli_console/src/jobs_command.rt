@@ -6,10 +6,12 @@ ghost use Rattle.br_cli_console.specs.LoadedJobs.{lists_all, rows_for};
 
 use crate::loaded_jobs::jobs_in;
 use crate::time_zone::SystemZones;
-use br_cli_common::{CLEAN, Clock, FileRows, JobsOptions, REFUSED, is_shown, refuse_start};
+use br_cli_common::{
+    CLEAN, Clock, FileRows, JobsOptions, REFUSED, is_shown, refuse_start, show_lines,
+};
 use br_history::History;
 use br_jobs::{Filter, Zones, list_jobs, marked_lines};
-use br_keeper::Catalogue;
+use br_keeper::{Catalogue, CatalogueFault};
 use br_plan::{BadMoment, read_moment};
 use std::io::{self, IsTerminal, Write};
 
@@ -121,6 +123,23 @@ fn print_local_jobs(rt: &HostRuntime, history: &History, filter: &Filter<'_>) ->
     print_jobs(rt, history, filter, &zones)
 }
 
+/// Prints why a catalogue is refused, and to a terminal which of its rows is wrong, if that is why.
+/// Returns the exit status.
+fn refuse_catalogue<C: Catalogue>(
+    rt: &HostRuntime,
+    catalogue: &C,
+    db: &str,
+    fault: CatalogueFault,
+) -> io::Result<u8>
+    ensures status { IfOk result (λ status. status ≡ 1) }
+{
+    let status = refuse_start(rt, fault.number())?;
+    if let CatalogueFault::BadCatalogue = fault {
+        show_lines(rt, &catalogue.wrong_rows(db))?;
+    }
+    Ok(status)
+}
+
 /// Prints the jobs of a catalogue, a line for each. If client, file set and moment are given, it marks those
 /// that `console` would choose; if that choice is refused, the refusal goes to standard error after the
 /// jobs. A line on standard error warns of each marked job whose files are gone from the catalogue.
@@ -144,7 +163,7 @@ pub fn list<C: Catalogue>(
     let file_rows = rows_for(&filter, given.file_rows);
     let history = match jobs_in(rt, catalogue, given.db, file_rows, &filter) {
         Ok(history) => history,
-        Err(fault) => return refuse_start(rt, fault.number()),
+        Err(fault) => return refuse_catalogue(rt, catalogue, given.db, fault),
     };
     match given.clock {
         Clock::Utc => print_jobs(rt, &history, &filter, &Zones::Utc),

@@ -70,6 +70,10 @@ pub trait Catalogue {
     fn load_needed<N: Needs>(&self, db: &str, needs: &N) -> Result<History, CatalogueFault>
         ensures loaded { IfOk result (λ history. AreNeeded (jobs_at self.now db.now) (N.needed needs.now) history) };
 
+    /// Returns a line for an operator that says what is wrong with the rows of the catalogue at the
+    /// path; nothing if they form a history or cannot be read.
+    fn wrong_rows(&self, db: &str) -> Vec<u8>;
+
     /// Migrates the catalogue at the path from version 1 to 2. Returns the number of its jobs.
     fn migrate(&self, db: &str) -> Result<u64, CatalogueFault>;
 }

@@ -7,6 +7,7 @@ ghost use Rattle.br_catalog_tables.specs.Tables.{no_schema};
 ghost use Rattle.br_catalog_rows.specs.Fault.{IsStoreFault, cause, of_rows_fault};
 ghost use Rattle.br_catalog_rows.specs.Load.{read_history, read_needed, without_files};
 ghost use Rattle.br_catalog_rows.specs.Rows.{no_rows};
+ghost use Rattle.br_catalog_rows.specs.WrongRows.{TellsWrong};
 ghost use Rattle.br_store.specs.Calls.{AddsJob, CommitsNothing, IsCommitted, IsDurable, IsJustOpened, IsReadable, IsSame};
 ghost use Rattle.br_store.specs.Calls.{MayCommit, MayMake, OnCleanDisk, WhileClean};
 ghost use Rattle.br_store.specs.Held.{AddsMedia, IsCatalogue, HasTables, looked_at, rows_in, versions_in};
@@ -15,7 +16,7 @@ ghost use Rattle.br_store.specs.Made.{Finds, IsLoadFault, IsOpenFault, IsWhy, ve
 use crate::job_writing::write_job;
 use crate::opening::make_or_check;
 use crate::queries::{read, ready};
-use br_catalog_rows::{RowsFault, StoreFault, history_of};
+use br_catalog_rows::{RowsFault, StoreFault, WrongRows, find_wrong, history_of};
 use br_history::{History, JobRows};
 use br_needed::Needs;
 use br_types::JobId;
@@ -165,6 +166,23 @@ impl<S: Alter> Store<S> {
         let jobs = self.load_jobs()?;
         let numbers = needs.needed_of(self.alloc, &jobs)?;
         self.load(Some(&numbers))
+    }
+
+    /// Returns what is wrong with the rows of the catalogue; `None` if they form a history.
+    ///
+    /// # Errors
+    ///
+    /// `Store`, with its cause, if the database fails; `Memory` if memory runs out.
+    pub fn find_wrong(&mut self) -> Result<Option<WrongRows>, StoreFault>
+        ensures wrong { OnCleanDisk S.Store self.old self.new (λ old new.
+            IfOk result (TellsWrong (rows_in old.now.trees))) }
+        ensures survives { CommitsNothing S.Store self.old self.new }
+    {
+        let rows = read(self.alloc, &mut self.conn, None)?;
+        match find_wrong(self.alloc, &rows) {
+            Ok(wrong) => Ok(wrong),
+            Err(_) => Err(StoreFault::Memory),
+        }
     }
 
     /// Returns the connection to the database.
