@@ -43,7 +43,7 @@ LINES = [
     ("brestore check --volumes ", [FOLDER]),
     ("brestore console --client ", []),
     ("brestore console --f", ["--fileset"]),
-    ("brestore jobs --", ["--before", "--client", "--db", "--fileset", "--help", "--local"]),
+    ("brestore jobs --", ["--before", "--client", "--db", "--fileset", "--help", "--local", "--verify-catalogue"]),
     ("brestore serve --m", ["--memory"]),
     ("brestore migrate --v", []),
     ("brestore nothing --he", ["--help"]),

@@ -1,5 +1,5 @@
 -- What the catalogue in a file tells, if its disk has returned what was written to it.
-use Rattle.std.specs.Prelude.{◌≡◌, ℕ, List, [], ◌++◌, Option, None, MatchOption, IsTrue, codes}
+use Rattle.std.specs.Prelude.{◌≡◌, ℕ, List, [], ◌++◌, Option, Some, None, IsTrue, codes}
 use Rattle.sqlite.specs.Effect.{Database}
 use Rattle.sqlite.specs.Held.{Held}
 use Rattle.sqlite_trees.specs.declared.store.Store.{Ghosts}
@@ -30,7 +30,8 @@ OfFoundRows before claim = (found : Database) × Finds before found × claim (ro
 
 -- the line that says what is wrong; nothing if nothing is
 abbrev pub wrong_line : Option WrongRows → List ℕ
-wrong_line told = MatchOption told [] (λ w. wrong_text w ++ codes "\n")
+wrong_line None = []
+wrong_line (Some w) = wrong_text w ++ codes "\n"
 
 -- the line says what is wrong with the rows
 abbrev pub SaysWrong : Rows → List ℕ → Type 0

@@ -1,4 +1,4 @@
-use Rattle.std.proofs.Common.{◌≡◌, ℕ, List, arith, ap, sym, subst, ◌∙◌}
+use Rattle.std.proofs.Common.{rules, ◌≡◌, ℕ, List, arith, ap, sym, subst, ◌∙◌}
 use Rattle.std.proofs.lemmas.Result.{err_from_is_err_and}
 use Rattle.sqlite.specs.Effect.{Database}
 use Rattle.sqlite.specs.State.{HasCleanDisk}
@@ -25,8 +25,9 @@ returns-clause-answers g c clean =
     let same = c.load_jobs.ensures.same clean_b (c.in_ok-jobs.ensures.open clean_b) in
     let needed = g.N.Needs.needed c.args.needs.now in
     let rows = rows_of g.S.Store c.args.self.now in
-    let read = ap (λ (db : Database). read_history (with_files_of c.in_ok-numbers.numbers.items (rows_in db.trees))) same.0
-    ∙ ap (λ (ids : List ℕ). read_history (with_files_of ids rows)) c.in_ok-numbers.ensures
+    let same_ids : c.deref.result.now ≡ c.in_ok-numbers.numbers.items = search rules in
+    let read = ap (λ (db : Database). read_history (with_files_of c.deref.result.now (rows_in db.trees))) same.0
+    ∙ ap (λ (ids : List ℕ). read_history (with_files_of ids rows)) (same_ids ∙ c.in_ok-numbers.ensures.numbers)
     ∙ sym (files_after needed rows c.in_ok-jobs.jobs (c.in_ok-jobs.ensures.answers clean_b)) in
     subst (Answers (λ h. h) cause c.load.result) read (c.load.ensures.answers clean)
 
