@@ -20,6 +20,7 @@ pub(crate) fn is_word(word: &[u8], name: &[u8]) -> bool
     requires { str_to_ascii_lowercase name.now ≡ name.now }
     ensures { result ≡ bytes_eq (str_to_ascii_lowercase word.now) name.now }
 {
+    // The clause of std, as one about lower case.
     word.eq_ignore_ascii_case(name)
 }
 

@@ -89,6 +89,7 @@ fn any_covers(groups: &[(u32, Group)], addr: u64) -> bool
 fn covers_any(groups: &[(u32, Group)], addr: u64) -> bool
     ensures { result ≡ is_covered (just_groups groups.now) addr }
 {
+    // The search has a clause of its own, from which this one is proved.
     any_covers(groups, addr)
 }
 

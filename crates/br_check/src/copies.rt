@@ -45,6 +45,7 @@ fn is_old(copies: &NewestCopies<'_>, all: &[(FileKey, Sketch)], key: FileKey, pa
     requires { AreNoted copies.now (copies_of (map outlined all.now)) }
     ensures { result ≡ is_outdated (copies_of (map outlined all.now)) (record { key = key; path = path.now }) }
 {
+    // The clause of the set, for the copies that it notes here.
     copies.has_newer(key, path)
 }
 

@@ -59,6 +59,7 @@ impl ClaimWord {
         ensures own { (own.new.table_id ≡ own.old.table_id) × (own.new.me ≡ (hand self.now.limit (65536 - (made + 1)) [] 0, [])) }
         ensures seat { (result.table_id ≡ self.now.claims) × (result.me ≡ (hand self.now.limit 1 [] 0, [])) }
     {
+        // The clauses of the kit, as facts about numbers.
         self.table.shared.split_seat::<OneSeat>(own)
     }
 

@@ -32,6 +32,7 @@ const DEFAULT_MEMORY: u64 = 1 << 30;
 fn value_of<'a>(found: &ArgMatches<'a>, name: &str) -> Option<&'a str>
     ensures { option_map (λ s. s.now) result ≡ first_of name.now (rows_of (found_of found.now)) }
 {
+    // The clause of clap, as a fact about rows.
     found.get_str(name)
 }
 
@@ -548,6 +549,7 @@ fn parsed<'a>(command: &mut Command<'a>, words: &'a [String]) -> Result<ArgMatch
     ensures misses { IfOk result (MissesBy (map string_bytes words.entry.now)) }
     ensures fails { FailsBy (fault_of program_app (map string_bytes words.entry.now)) result }
 {
+    // The clauses of clap, as facts about the words.
     command.try_get_matches_from_mut(words)
 }
 

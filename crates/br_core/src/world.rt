@@ -66,6 +66,7 @@ impl World {
         ensures delivers { IfOk result (λ reply. HoweverReached self.old (GivesSelected self.old (event_of event) (reply_of reply))) }
         ensures hits { HoweverReached self.new (AllHaveHits self.new) }
     {
+        // The clauses over the parts of the state, from which these are proved.
         take_step(rt, self.alloc, &mut self.backups, &mut self.restores, event)
     }
 }

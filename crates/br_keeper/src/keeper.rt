@@ -200,6 +200,7 @@ impl<C: JobStore, W: VolumeStore> Keeper<C, W> {
         ensures stands { StandsOn (shelf_of W.holds W.failures) self.old self.new }
         ensures settled { W.durable self.new.volumes ≡ W.durable self.old.volumes }
     {
+        // The publishing has a clause of its own, from which these are proved.
         self.publish_waiting(rt)
     }
 

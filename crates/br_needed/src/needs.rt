@@ -29,5 +29,6 @@ fn each_number(alloc: Global, jobs: &[&JobRows]) -> Result<Vec<JobId>, AllocErro
 pub fn numbers_of(alloc: Global, jobs: &[&JobRows]) -> Result<Vec<JobId>, AllocError>
     ensures { IfOk result (λ numbers. numbers.items ≡ numbers_in (map (λ j. j.now) jobs.now)) }
 {
+    // The closure has a clause of its own, from which this one is proved.
     each_number(alloc, jobs)
 }

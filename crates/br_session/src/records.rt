@@ -32,6 +32,7 @@ fn add(packer: &mut Packer, index: FileIndex, stream: u32, bytes: &[u8]) -> Resu
     requires size { length bytes.now < 2 ^ 32 }
     ensures { OnOk result (Adds packer.old packer.new (record { index = index; stream = stream; bytes = bytes.now } ∷ [])) }
 {
+    // The clauses of the packer, as one about a list of records.
     packer.add(index, stream, bytes)
 }
 

@@ -18,6 +18,7 @@ pub fn place_of(text: &[u8], byte: u8) -> Option<usize>
     ensures place { result ≡ position (λ c. c == byte) text.now }
     ensures inside { IfSome result (λ at. at < length text.now) }
 {
+    // The clause of bstr, as one about a single byte.
     text.find_byte(byte)
 }
 

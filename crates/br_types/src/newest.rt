@@ -80,6 +80,7 @@ impl<'p> NewestCopies<'p> {
         ensures { OnOk result ((copies : List Copy) → AreNoted self.old copies
             → AreNoted self.new (record { key = key; path = path.now } ∷ copies)) }
     {
+        // The map has a clause of its own, from which this one is proved.
         keep(&mut self.newest, key, path)
     }
 
