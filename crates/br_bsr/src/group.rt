@@ -55,7 +55,7 @@ fn greatest_end(ranges: &[Range]) -> u64
 
 /// A selection of records of one volume: those that each criterion admits. A criterion admits the
 /// numbers in its ranges, and all numbers if it has no ranges.
-#[derive(Debug, Drop)]
+#[derive(Drop)]
 pub struct Group {
     /// The volume.
     pub vol: VolName,

@@ -9,7 +9,7 @@ use br_types::{FileKey, SessionKey};
 use std::alloc::{AllocError, Global};
 
 /// A run of indexes that a group of a bootstrap asks for, and of which there is no file.
-#[derive(Clone, Copy, Debug)]
+#[derive(Clone, Copy)]
 pub struct Gap {
     /// The place of the group in its bootstrap, counted from 0.
     pub group: usize,

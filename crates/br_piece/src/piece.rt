@@ -7,7 +7,7 @@ use std::alloc::{AllocError, Global};
 use std::marker::Model;
 
 /// The part of a bootstrap that is on one volume.
-#[derive(Debug, Drop)]
+#[derive(Drop)]
 pub struct Piece {
     /// The number of the piece: the number of volumes that the bootstrap names before this one.
     pub number: u32,

@@ -2,7 +2,7 @@ use br_types::Name;
 use std::marker::Model;
 
 /// What is to be restored: the state of a file set of a client before a moment.
-#[derive(Debug, Drop)]
+#[derive(Drop)]
 pub struct Request {
     pub client: Name,
     pub fileset: Name,
