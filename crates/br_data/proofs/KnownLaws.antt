@@ -10,7 +10,7 @@ use Rattle.br_volume.specs.Drive.{OnlyGrows}
 use Rattle.br_data.specs.KeptData.{Kept}
 use Rattle.br_data.specs.StandingHits.{FragmentPlace, ShowsBlock}
 use Rattle.br_data.specs.Rereading.{IsGone}
-use Rattle.br_data.specs.KnownBlocks.{KnownBlock, IsKnown, IsReady, OfFragment, bytes_of, fragment_of, knows}
+use Rattle.br_data.specs.KnownBlocks.{KnownBlock, IsKnown, GivesBytes, OfFragment, bytes_of, fragment_of, knows}
 use Rattle.br_data.specs.declared.reread_fault.AgainFault.{AgainFault}
 use Rattle.br_data.specs.declared.reread_fault.AgainFault.TheVariants.{Changed}
 use Rattle.br_data.proofs.ReadLaws.{shown_is_block}
@@ -39,7 +39,7 @@ given known n kept fragment is same = go kept.held
 
 -- after a block was read, and none are held
 pub ready_if_known : (earlier later : Option (List Volume)) (place : FragmentPlace) (kept : Kept) (known : Option KnownBlock) → OnlyGrows earlier later → IsKnown later known
-    → knows place known ≡ true → IsReady earlier place kept known
+    → knows place known ≡ true → GivesBytes earlier place kept known
 ready_if_known earlier later place kept known grown is knows volumes fragment shows stands same =
     given known place.ordinal kept fragment (stands_known earlier later place known grown is knows volumes fragment shows stands) same
 

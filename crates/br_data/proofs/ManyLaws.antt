@@ -9,13 +9,13 @@ use Rattle.br_model.specs.Volume.{Volume}
 use Rattle.br_volume.specs.Drive.{OnlyGrows}
 use Rattle.br_volume.proofs.ExtendLaws.{extends_itself, grows_itself, grows_more}
 use Rattle.br_data.specs.KeptData.{Kept}
-use Rattle.br_data.specs.KnownBlocks.{IsKnown, IsReady, KnownBlock, OfFragment, bytes_of}
+use Rattle.br_data.specs.KnownBlocks.{IsKnown, GivesBytes, KnownBlock, OfFragment, bytes_of}
 use Rattle.br_data.specs.StandingHits.{FragmentPlace, StandingStays, Stands, place_on}
 use Rattle.br_data.specs.OverDrives.{GivesOver}
 use Rattle.br_data.specs.ManyDrives.{Driven, FailsAt, GoesOn, HasBytes, HaveBytes, IsKnownAt, driven_by}
 
 -- a block that is ready for what the drive has at the place gives these bytes
-pub has_ready : (shown : Option (List Volume)) (place : FragmentPlace) (kept : Kept) (known : Option KnownBlock) → IsReady shown place kept known
+pub has_ready : (shown : Option (List Volume)) (place : FragmentPlace) (kept : Kept) (known : Option KnownBlock) → GivesBytes shown place kept known
     → HasBytes shown place kept.bytes → bytes_of known place.ordinal kept ≡ Ok kept.bytes
 has_ready None place kept known ready has = absurd has
 has_ready (Some shown) place kept known ready has = ready shown has.0 (extends_itself shown) has.1 has.2

@@ -40,6 +40,6 @@ abbrev pub OfFragment : Option (List Volume) → FragmentPlace → (Fragment →
 OfFragment shown place P = (volumes : List Volume) (fragment : Fragment) → ShowsAll shown volumes → Stands volumes place fragment → P fragment
 
 -- The bytes are given, or read from the block, if they are those of the fragment at the place.
-abbrev pub IsReady : Option (List Volume) → FragmentPlace → Kept → Option KnownBlock → Type 0
-IsReady shown place kept known =
+abbrev pub GivesBytes : Option (List Volume) → FragmentPlace → Kept → Option KnownBlock → Type 0
+GivesBytes shown place kept known =
     OfFragment shown place (λ fragment. fragment.bytes ≡ kept.bytes → bytes_of known place.ordinal kept ≡ Ok kept.bytes)

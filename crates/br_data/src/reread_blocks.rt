@@ -1,7 +1,7 @@
 ghost use Rattle.std.specs.Prelude.{◌≡◌, ◌≤◌, ◌<◌, true, Err, None, OnOk, IsOk, option_map};
 ghost use Rattle.br_model.specs.Answer.{AnswersAlways};
 ghost use Rattle.br_volume.specs.Drive.{OnlyGrows};
-ghost use Rattle.br_data.specs.KnownBlocks.{IsKnown, IsReady, OfFragment, bytes_of, knows};
+ghost use Rattle.br_data.specs.KnownBlocks.{IsKnown, GivesBytes, OfFragment, bytes_of, knows};
 ghost use Rattle.br_data.specs.DataSpans.{data_of};
 ghost use Rattle.br_data.specs.Rereading.{IsGone};
 ghost use Rattle.br_data.specs.declared.reread_fault.AgainFault.TheVariants.{Changed, Failed};
@@ -115,7 +115,7 @@ impl Again {
     ) -> Result<(), AgainFault>
         requires known { IsKnown (D.shows drive.old) self.old }
         ensures known { IsKnown (D.shows drive.new) self.new }
-        ensures same { OnOk result (IsReady (D.shows drive.old) place.now found.now self.new) }
+        ensures same { OnOk result (GivesBytes (D.shows drive.old) place.now found.now self.new) }
         ensures held { found.now.held ≡ true → IsOk result }
         ensures gone { result ≡ Err Changed → OfFragment (D.shows drive.old) place.now (λ _. ⊥) }
         ensures grows { OnlyGrows (D.shows drive.old) (D.shows drive.new) }

@@ -4,7 +4,7 @@ use Rattle.std.specs.Prelude.{Vec}
 use Rattle.std.specs.Prelude.{bytes_eq}
 use Rattle.std.specs.List.{find}
 use Rattle.br_model.specs.Volume.{Volume, volume_bytes}
-use Rattle.br_fs.specs.Memory.{files_of}
+use Rattle.br_fs.specs.Memory.{kept_files}
 
 first_kept : {X : Type 0} (bytes : X → List ℕ) (b : Bool) (x : X) (v : Volume) (found : Option Volume) (kept : Option X) → v.bytes ≡ bytes x
     → option_map (λ (w : Volume). w.bytes) found ≡ option_map bytes kept
@@ -22,5 +22,5 @@ bytes_of_kept name bytes (x ∷ xs) n =
 
 -- the first at a path that is kept has the file's bytes
 pub found_kept : {A : Type 0} (kept : List (List ℕ × Vec ℕ A)) (n : List ℕ) (found : Option (List ℕ × Vec ℕ A))
-    → found ≡ find (λ v. bytes_eq v.0 n) kept → option_map (λ v. v.1.items) found ≡ volume_bytes (files_of kept) n
+    → found ≡ find (λ v. bytes_eq v.0 n) kept → option_map (λ v. v.1.items) found ≡ volume_bytes (kept_files kept) n
 found_kept kept n found e = ap (option_map (λ v. v.1.items)) e ∙ sym (bytes_of_kept (λ v. v.0) (λ v. v.1.items) kept n)

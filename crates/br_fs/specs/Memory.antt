@@ -11,8 +11,8 @@ use Rattle.br_fs.specs.declared.kind.Kind.TheVariants.{File, Folder, Link, Other
 use Rattle.br_fs.specs.declared.kind.Metadata.{Metadata}
 
 -- files that are kept as pairs of a path and bytes, in their order
-abbrev pub files_of : {A : Type 0} → List (List ℕ × Vec ℕ A) → List Volume
-files_of {A} kept = map (λ (v : List ℕ × Vec ℕ A). record { name = v.0; bytes = v.1.items }) kept
+abbrev pub kept_files : {A : Type 0} → List (List ℕ × Vec ℕ A) → List Volume
+kept_files {A} kept = map (λ (v : List ℕ × Vec ℕ A). record { name = v.0; bytes = v.1.items }) kept
 
 -- its tree, the files whose names are durable with the numbers of their bytes that are durable (of
 -- the entries for one path, the first counts), the number of interrupts to come, the number of

@@ -4,7 +4,7 @@ ghost use Rattle.std.specs.Option.{option_copied};
 ghost use Rattle.br_model.specs.Volume.{volume_bytes};
 ghost use Rattle.br_fs.specs.Calls.{Appends, IsNothing, IsPartAt, IsSteady, IsTaken, KeepsFolders};
 ghost use Rattle.br_fs.specs.Durable.{Lasts, NamesFiles, SyncsFile};
-ghost use Rattle.br_fs.specs.Memory.{Held, IsSeen, IsOtherIn, IsIn, durable_on, entries_in, files_of, steady_of, with_appended};
+ghost use Rattle.br_fs.specs.Memory.{Held, IsSeen, IsOtherIn, IsIn, durable_on, entries_in, kept_files, steady_of, with_appended};
 ghost use Rattle.br_fs.specs.Memory.{synced_after, with_interrupts, with_calls, with_room};
 ghost use Rattle.br_fs.specs.declared.fault.DiskFault.TheVariants.{Exists, NotFound};
 
@@ -34,12 +34,12 @@ pub struct MemDisk {
 }
 
 impl Model for MemDisk {
-    ghost use Rattle.br_fs.specs.Memory.{Held, files_of};
+    ghost use Rattle.br_fs.specs.Memory.{Held, kept_files};
 
     ghost Value = { Held };
 
     ghost view = { λ d. record {
-      tree = record { files = files_of d.files.items; others = d.others.items };
+      tree = record { files = kept_files d.files.items; others = d.others.items };
       synced = d.synced.items;
       interrupts = d.interrupts;
       calls_left = d.calls_left;
@@ -54,7 +54,7 @@ impl MemDisk {
         files: Vec<(FilePath, Vec<u8>)>,
         others: Vec<(FilePath, Kind)>,
     ) -> MemDisk
-        ensures tree { result.tree ≡ record { files = files_of files.items; others = others.items } }
+        ensures tree { result.tree ≡ record { files = kept_files files.items; others = others.items } }
         ensures steady { steady_of result ≡ Some 0 }
     {
         MemDisk {
@@ -132,7 +132,7 @@ fn file_of<'a>(files: &'a [(FilePath, Vec<u8>)], path: &[u8]) -> Option<&'a (Fil
 
 /// Returns the bytes of the first file at the path.
 pub(crate) fn bytes_of<'a>(files: &'a [(FilePath, Vec<u8>)], path: &[u8]) -> Option<&'a Vec<u8>>
-    ensures { option_map (λ b. b.now.items) result ≡ volume_bytes (files_of files.now) path.now }
+    ensures { option_map (λ b. b.now.items) result ≡ volume_bytes (kept_files files.now) path.now }
 {
     match file_of(files, path) {
         None => None,
@@ -176,7 +176,7 @@ fn found_in(
     others: &[(FilePath, Kind)],
     path: &[u8],
 ) -> Option<Metadata>
-    ensures { IsIn (record { files = files_of files.now; others = others.now }) path.now result }
+    ensures { IsIn (record { files = kept_files files.now; others = others.now }) path.now result }
 {
     if let Some(bytes) = bytes_of(files, path) {
         return Some(Metadata {
@@ -189,8 +189,8 @@ fn found_in(
 
 /// Returns whether something is at the path.
 fn is_taken(files: &[(FilePath, Vec<u8>)], others: &[(FilePath, Kind)], path: &[u8]) -> bool
-    ensures free { result ≡ false → IsNothing (Some (record { files = files_of files.now; others = others.now })) path.now }
-    ensures taken { result ≡ true → IsTaken (Some (record { files = files_of files.now; others = others.now })) path.now }
+    ensures free { result ≡ false → IsNothing (Some (record { files = kept_files files.now; others = others.now })) path.now }
+    ensures taken { result ≡ true → IsTaken (Some (record { files = kept_files files.now; others = others.now })) path.now }
 {
     match bytes_of(files, path) {
         Some(_) => true,
@@ -212,8 +212,8 @@ fn append_to(
     path: &[u8],
     bytes: &[u8],
 ) -> Result<(), AllocError>
-    ensures ok { OnOk result (files_of files.new.items ≡ with_appended path.now bytes.now (files_of files.old.items)) }
-    ensures err { OnErr result (files_of files.new.items ≡ files_of files.old.items) }
+    ensures ok { OnOk result (kept_files files.new.items ≡ with_appended path.now bytes.now (kept_files files.old.items)) }
+    ensures err { OnErr result (kept_files files.new.items ≡ kept_files files.old.items) }
 {
     match position_of(files, path) {
         Some(at) => files[at].1.extend_from_slice(bytes),

@@ -2,7 +2,7 @@
 ghost use Rattle.std.specs.Prelude.{◌≡◌, ℕ, ◌==◌, length, bytes_eq, IfOk, OnErr, OnOk};
 ghost use Rattle.std.specs.List.{list_any};
 ghost use Rattle.br_model.specs.SessionHolds.{bytes_of_volume};
-ghost use Rattle.br_fs.specs.Memory.{entries_in, files_of, is_in_folder, is_named, with_synced};
+ghost use Rattle.br_fs.specs.Memory.{entries_in, kept_files, is_in_folder, is_named, with_synced};
 
 use crate::file_path::FilePath;
 use crate::mem::bytes_of;
@@ -42,7 +42,7 @@ pub(crate) fn entries_of(
     files: &[(FilePath, Vec<u8>)],
     folder: &[u8],
 ) -> Result<Vec<(FilePath, u64)>, AllocError>
-    ensures { IfOk result (λ entries. entries.items ≡ entries_in folder.now (files_of files.now)) }
+    ensures { IfOk result (λ entries. entries.items ≡ entries_in folder.now (kept_files files.now)) }
 {
     let mut entries = Vec::new(alloc);
     for file in files {
@@ -55,7 +55,7 @@ pub(crate) fn entries_of(
 
 /// Returns the number of bytes of the file at the path; 0 if there is no file.
 pub(crate) fn len_at(files: &[(FilePath, Vec<u8>)], path: &[u8]) -> u64
-    ensures { result ≡ length (bytes_of_volume (files_of files.now) path.now) }
+    ensures { result ≡ length (bytes_of_volume (kept_files files.now) path.now) }
 {
     match bytes_of(files, path) {
         None => 0,

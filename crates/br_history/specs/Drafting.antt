@@ -11,8 +11,8 @@ use Rattle.br_history.specs.Saving.{ToCommit, checked_job}
 use Rattle.br_types.specs.DecimalSpelling.{fields_of}
 use Rattle.br_history.specs.JobLineFault.{cause}
 use Rattle.br_history.specs.JobHead.{Begun}
-use Rattle.br_history.specs.JobLine.{Asked, line_said}
-use Rattle.br_history.specs.JobLine.Asked.{Save, Delete, Give, End}
+use Rattle.br_history.specs.JobLine.{LineAsked, line_said}
+use Rattle.br_history.specs.JobLine.LineAsked.{Save, Delete, Give, End}
 use Rattle.br_history.specs.declared.draft.Taken.{Taken}
 use Rattle.br_history.specs.declared.draft.Taken.TheVariants as taken
 use Rattle.br_history.specs.declared.job_line_fault.JobLineFault.{JobLineFault}
@@ -47,14 +47,14 @@ abbrev pub with_place : Drafting → Place → Drafting
 with_place d p = record d { places = d.places ++ p ∷ []; closed = p.blocks == 0 }
 
 -- the job after what a line asks for; no place follows one that takes all remaining blocks
-abbrev pub drafted : Asked → Drafting → Result Drafting ℕ
+abbrev pub drafted : LineAsked → Drafting → Result Drafting ℕ
 drafted (Save file) d = Ok (record d { files = d.files ++ file ∷ [] })
 drafted (Delete path) d = Ok (record d { deleted = d.deleted ++ path ∷ [] })
 drafted (Give place) d = if d.closed then Err 90 else Ok (with_place d place)
 drafted End d = Ok d
 
 -- the job has what is asked for, or it is unchanged and this is the refusal
-abbrev pub Drafts : Asked → Drafting → Drafting → Result (Unit {0}) JobLineFault → Type 0
+abbrev pub Drafts : LineAsked → Drafting → Drafting → Result (Unit {0}) JobLineFault → Type 0
 Drafts asked old new result =
     MatchResult result (λ _. drafted asked old ≡ Ok new) (λ why. (new ≡ old) × IsRefusal (cause why) (drafted asked old))
 
@@ -63,7 +63,7 @@ abbrev pub drafted_by : List ℕ → Drafting → Result Drafting ℕ
 drafted_by line d = line_said line >>= (λ a. drafted a d)
 
 -- whether a line ends the job or the job goes on after it
-abbrev pub taken_of : Asked → Taken
+abbrev pub taken_of : LineAsked → Taken
 taken_of End = taken.End
 taken_of (Save _) = taken.Line
 taken_of (Delete _) = taken.Line
@@ -71,7 +71,7 @@ taken_of (Give _) = taken.Line
 
 -- the job after a line was read, and whether the line ends it
 abbrev pub ReadsLine : List ℕ → Drafting → Drafting → Result Taken JobLineFault → Type 0
-ReadsLine line old new (Ok what) = (a : Asked) × (line_said line ≡ Ok a) × (drafted a old ≡ Ok new) × (what ≡ taken_of a)
+ReadsLine line old new (Ok what) = (a : LineAsked) × (line_said line ≡ Ok a) × (drafted a old ≡ Ok new) × (what ≡ taken_of a)
 ReadsLine line old new (Err why) = (new ≡ old) × IsRefusal (cause why) (drafted_by line old)
 
 -- the line begins with one of the words of a job's own lines
@@ -89,7 +89,7 @@ gives_up line d = if is_of_job line then given_up d else d
 
 -- the job after a line, and whether the line ends it
 abbrev pub TakesLine : List ℕ → Drafting → Drafting → Result Taken JobLineFault → Type 0
-TakesLine line old new (Ok what) = (a : Asked) × (line_said line ≡ Ok a) × (drafted a old ≡ Ok new) × (what ≡ taken_of a)
+TakesLine line old new (Ok what) = (a : LineAsked) × (line_said line ≡ Ok a) × (drafted a old ≡ Ok new) × (what ≡ taken_of a)
 TakesLine line old new (Err why) = (new ≡ gives_up line old) × IsRefusal (cause why) (drafted_by line old)
 
 -- a job with files has a last place that takes all remaining blocks

@@ -9,32 +9,32 @@ use Rattle.br_history.specs.declared.job_line.JobLine.{JobLine}
 use Rattle.br_history.specs.declared.job_line.JobLine.TheVariants as lines
 
 -- what a line asks for: to save a file, to note a path as deleted, a place for blocks, or the end
-pub data Asked : Type 0 where
-  Save : ToSave → Asked
-  Delete : List ℕ → Asked
-  Give : Place → Asked
-  End : Asked
+pub data LineAsked : Type 0 where
+  Save : ToSave → LineAsked
+  Delete : List ℕ → LineAsked
+  Give : Place → LineAsked
+  End : LineAsked
 
 -- a line's request, as the model's value
-abbrev pub asked : JobLine → Asked
-asked (lines.Save file) = Save file
-asked (lines.Delete path) = Delete path
-asked (lines.Place place) = Give place
-asked lines.End = End
+abbrev pub line_asked : JobLine → LineAsked
+line_asked (lines.Save file) = Save file
+line_asked (lines.Delete path) = Delete path
+line_asked (lines.Place place) = Give place
+line_asked lines.End = End
 
 -- what the fields after `put` or `putd` ask for
-unfoldable pub put_line_said : Bool → List ℕ → Result Asked ℕ
+unfoldable pub put_line_said : Bool → List ℕ → Result LineAsked ℕ
 put_line_said digest fields = saved_said fields >>= (λ f. Ok (Save (record { file = f; digest = digest })))
 
 -- what the field after `del` asks for
-unfoldable pub delete_said : List ℕ → Result Asked ℕ
+unfoldable pub delete_said : List ℕ → Result LineAsked ℕ
 delete_said text = do
   field ← last_field text
   path ← path_said field
   Ok (Delete path)
 
 -- what the fields after `place` ask for
-unfoldable pub place_said : List ℕ → Result Asked ℕ
+unfoldable pub place_said : List ℕ → Result LineAsked ℕ
 place_said fields = do
   volume ← field fields
   n ← number_said 4294967295 volume.1
@@ -42,7 +42,7 @@ place_said fields = do
   Ok (Give (record { volume = v; blocks = n }))
 
 -- what a line of a word and the fields after it asks for
-abbrev pub fields_said : List ℕ → List ℕ → Result Asked ℕ
+abbrev pub fields_said : List ℕ → List ℕ → Result LineAsked ℕ
 fields_said word fields =
     if bytes_eq word (codes "put") then put_line_said false fields
     else if bytes_eq word (codes "putd") then put_line_said true fields
@@ -51,14 +51,14 @@ fields_said word fields =
     else Err 90
 
 -- what a line of one word asks for
-abbrev pub word_said : List ℕ → Result Asked ℕ
+abbrev pub word_said : List ℕ → Result LineAsked ℕ
 word_said word = if bytes_eq word (codes "end") then Ok End else Err 90
 
 -- the first word and, if there are some, the fields after it
-abbrev pub said_by : List ℕ × Option (List ℕ) → Result Asked ℕ
+abbrev pub said_by : List ℕ × Option (List ℕ) → Result LineAsked ℕ
 said_by (word, Some fields) = fields_said word fields
 said_by (word, None) = word_said word
 
 -- what a line asks for; a line of more than 4096 bytes is refused
-unfoldable pub line_said : List ℕ → Result Asked ℕ
+unfoldable pub line_said : List ℕ → Result LineAsked ℕ
 line_said text = if nat_le (length text) 4096 then said_by (fields_of text) else Err 90

@@ -7,8 +7,8 @@ ghost use Rattle.br_history.specs.Saving.{checked_job};
 ghost use Rattle.br_history.specs.Drafting.{Drafts, ReadsLine, TakesBlock, TakesLine, begins, ended};
 ghost use Rattle.br_history.specs.Drafting.{given_up, gives_up, has_places, is_of_job, taken_of, to_commit};
 ghost use Rattle.br_history.specs.JobLineFault.{end_number};
-ghost use Rattle.br_history.specs.JobLine.{asked};
-ghost use Rattle.br_history.specs.JobLine.Asked.{Give};
+ghost use Rattle.br_history.specs.JobLine.{line_asked};
+ghost use Rattle.br_history.specs.JobLine.LineAsked.{Give};
 
 use crate::fault::SavedJobFault;
 use crate::job_head::JobHead;
@@ -99,7 +99,7 @@ fn is_job_line(line: &[u8]) -> bool
 
 /// Returns whether a line ends its job.
 fn taken_of(line: &JobLine) -> Taken
-    ensures { result ≡ taken_of (asked line.now) }
+    ensures { result ≡ taken_of (line_asked line.now) }
 {
     match line {
         JobLine::End => Taken::End,
@@ -153,7 +153,7 @@ impl Draft {
 
     /// Adds what a line asks for.
     fn add(&mut self, line: JobLine) -> Result<(), JobLineFault>
-        ensures { Drafts (asked line) self.old self.new result }
+        ensures { Drafts (line_asked line) self.old self.new result }
     {
         match line {
             JobLine::Save(file) => Ok(self.files.push(file).map_err(AllocError::from)?),

@@ -2,7 +2,7 @@
 ghost use Rattle.std.specs.Prelude.{◌≡◌};
 ghost use Rattle.br_model.specs.Answer.{Answers};
 ghost use Rattle.br_history.specs.JobLineFault.{cause};
-ghost use Rattle.br_history.specs.JobLine.{asked, delete_said, fields_said, line_said, place_said, put_line_said, word_said};
+ghost use Rattle.br_history.specs.JobLine.{line_asked, delete_said, fields_said, line_said, place_said, put_line_said, word_said};
 
 use crate::file_line::{path_of, read_put};
 use crate::job_fields::{last, next, small_number, volume_of};
@@ -30,7 +30,7 @@ pub enum JobLine {
 /// Reads the fields of a file that is saved with a digest or without.
 #[tactic(auto, unfolding(crate::specs::JobLine::put_line_said))]
 fn read_save(alloc: Global, fields: &[u8], digest: bool) -> Result<JobLine, JobLineFault>
-    ensures { Answers asked cause result (put_line_said digest fields.now) }
+    ensures { Answers line_asked cause result (put_line_said digest fields.now) }
 {
     Ok(JobLine::Save(read_put(alloc, fields, digest)?))
 }
@@ -38,7 +38,7 @@ fn read_save(alloc: Global, fields: &[u8], digest: bool) -> Result<JobLine, JobL
 /// Reads the field `PATH`.
 #[tactic(auto, unfolding(crate::specs::JobLine::delete_said))]
 fn read_delete(alloc: Global, field: &[u8]) -> Result<JobLine, JobLineFault>
-    ensures { Answers asked cause result (delete_said field.now) }
+    ensures { Answers line_asked cause result (delete_said field.now) }
 {
     let field = last(field)?;
     Ok(JobLine::Delete(path_of(alloc, field)?))
@@ -47,7 +47,7 @@ fn read_delete(alloc: Global, field: &[u8]) -> Result<JobLine, JobLineFault>
 /// Reads the fields `VOLUME BLOCKS`.
 #[tactic(auto, unfolding(crate::specs::JobLine::place_said))]
 fn read_place(alloc: Global, fields: &[u8]) -> Result<JobLine, JobLineFault>
-    ensures { Answers asked cause result (place_said fields.now) }
+    ensures { Answers line_asked cause result (place_said fields.now) }
 {
     let (vol, blocks) = next(fields)?;
     let blocks = small_number(blocks)?;
@@ -57,7 +57,7 @@ fn read_place(alloc: Global, fields: &[u8]) -> Result<JobLine, JobLineFault>
 
 /// Reads a line of a word and the fields after it.
 fn read_fields(alloc: Global, word: &[u8], fields: &[u8]) -> Result<JobLine, JobLineFault>
-    ensures { Answers asked cause result (fields_said word.now fields.now) }
+    ensures { Answers line_asked cause result (fields_said word.now fields.now) }
 {
     if word == b"put".as_slice() {
         read_save(alloc, fields, false)
@@ -74,7 +74,7 @@ fn read_fields(alloc: Global, word: &[u8], fields: &[u8]) -> Result<JobLine, Job
 
 /// Reads a line of one word.
 fn read_word(word: &[u8]) -> Result<JobLine, JobLineFault>
-    ensures { Answers asked cause result (word_said word.now) }
+    ensures { Answers line_asked cause result (word_said word.now) }
 {
     if word == b"end".as_slice() {
         Ok(JobLine::End)
@@ -94,7 +94,7 @@ fn read_word(word: &[u8]) -> Result<JobLine, JobLineFault>
 /// for `put` and `putd` in this order: `BadPath`, `Stat` and `File`; for `del` `BadPath`.
 #[tactic(auto, unfolding(crate::specs::JobLine::line_said))]
 pub fn read_job_line(alloc: Global, line: &[u8]) -> Result<JobLine, JobLineFault>
-    ensures { Answers asked cause result (line_said line.now) }
+    ensures { Answers line_asked cause result (line_said line.now) }
 {
     if line.len() > MAX_LINE {
         return Err(JobLineFault::BadScript);

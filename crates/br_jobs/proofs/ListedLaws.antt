@@ -14,7 +14,7 @@ use Rattle.br_model.proofs.ListLaws.{all_weaker, contains_filter, kept_passes, o
 use Rattle.br_choose.specs.Wanted.{request_for}
 use Rattle.br_needed.specs.Needed.{Covers, bare, files_if, is_one_of, numbers_in, with_needed}
 use Rattle.br_needed.proofs.NeededLaws.{all_stay, covered_choose_alike, filter_image, has_number, same_numbers}
-use Rattle.br_jobs.specs.JobFilter.{is_listed, listed}
+use Rattle.br_jobs.specs.JobFilter.{is_listed, jobs_listed}
 use Rattle.br_jobs.specs.JobMarks.{chosen_for, marked, marks}
 use Rattle.br_jobs.specs.ListedFiles.{ListsAlike, needed_by}
 use Rattle.br_jobs.specs.declared.job_filter.Filter.{Filter}
@@ -22,15 +22,15 @@ use Rattle.br_jobs.specs.declared.job_filter.Filter.{Filter}
 -- ---- what is listed
 
 -- jobs without some files are listed as they are with them
-listed_image : (f : Filter) (ids : List ℕ) (jobs : List JobRows) → listed f (map (files_if ids) jobs) ≡ map (files_if ids) (listed f jobs)
+listed_image : (f : Filter) (ids : List ℕ) (jobs : List JobRows) → jobs_listed f (map (files_if ids) jobs) ≡ map (files_if ids) (jobs_listed f jobs)
 listed_image f ids jobs = filter_image (is_listed f) (files_if ids) jobs
 
 -- the jobs without files decide which files are needed
 same_needed : (f : Filter) (jobs : List JobRows) → needed_by f (bare jobs) ≡ needed_by f jobs
-same_needed f jobs = ap numbers_in (listed_image f [] jobs) ∙ same_numbers [] (listed f jobs)
+same_needed f jobs = ap numbers_in (listed_image f [] jobs) ∙ same_numbers [] (jobs_listed f jobs)
 
-listed_alike : (f : Filter) (jobs : List JobRows) → listed f (map (files_if (needed_by f jobs)) jobs) ≡ listed f jobs
-listed_alike f jobs = listed_image f (needed_by f jobs) jobs ∙ all_stay (needed_by f jobs) (listed f jobs) (has_number (listed f jobs))
+listed_alike : (f : Filter) (jobs : List JobRows) → jobs_listed f (map (files_if (needed_by f jobs)) jobs) ≡ jobs_listed f jobs
+listed_alike f jobs = listed_image f (needed_by f jobs) jobs ∙ all_stay (needed_by f jobs) (jobs_listed f jobs) (has_number (jobs_listed f jobs))
 
 -- ---- what is marked
 
@@ -97,6 +97,6 @@ marked_alike history (Some client) (Some fileset) None = refl
 pub lists_alike : ListsAlike
 lists_alike f jobs =
     let same : with_needed (needed_by f) jobs ≡ map (files_if (needed_by f jobs)) jobs = ap (λ (ids : List ℕ). map (files_if ids) jobs) (same_needed f jobs) in (
-      ap (listed f) same ∙ listed_alike f jobs,
+      ap (jobs_listed f) same ∙ listed_alike f jobs,
       ap (λ (js : List JobRows). marks js f) same ∙ marked_alike jobs f.client f.fileset f.before,
     )

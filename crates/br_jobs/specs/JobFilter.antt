@@ -12,5 +12,5 @@ is_listed f j =
     && option_map_or (λ m. nat_lt j.row.start m) f.before true
 
 -- the jobs that are listed, in their order
-abbrev pub listed : Filter → List JobRows → List JobRows
-listed f jobs = filter (is_listed f) jobs
+abbrev pub jobs_listed : Filter → List JobRows → List JobRows
+jobs_listed f jobs = filter (is_listed f) jobs

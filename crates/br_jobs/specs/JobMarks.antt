@@ -6,7 +6,7 @@ use Rattle.br_model.specs.Choice.{choose}
 use Rattle.br_model.specs.Job.{JobRows}
 use Rattle.br_model.specs.Name.{checked_name}
 use Rattle.br_choose.specs.Wanted.{request_for}
-use Rattle.br_jobs.specs.JobFilter.{listed}
+use Rattle.br_jobs.specs.JobFilter.{jobs_listed}
 use Rattle.br_jobs.specs.LocalTime.{AreLinesIn}
 use Rattle.br_jobs.specs.declared.job_filter.Filter.{Filter}
 use Rattle.br_jobs.specs.ListingFault.{cause}
@@ -38,5 +38,5 @@ marks history f = marked history f.client f.fileset f.before
 abbrev pub MarksLines : Zones → List JobRows → Filter → Result MarkedLines ListingFault → Type 0
 MarksLines zones history f (Ok text) =
     (chosen : List (Bor JobRows)) × (marks history f ≡ Ok (map (λ (j : Bor JobRows). j.now) chosen))
-    × AreLinesIn zones chosen (listed f history) text.lines.items × WarnsOf chosen text.warnings.items
+    × AreLinesIn zones chosen (jobs_listed f history) text.lines.items × WarnsOf chosen text.warnings.items
 MarksLines zones history f (Err fault) = IsRefusal (cause fault) (marks history f)

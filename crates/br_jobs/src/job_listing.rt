@@ -1,7 +1,7 @@
 ghost use Rattle.std.specs.Prelude.{◌≡◌, IfOk, OnOk};
 ghost use Rattle.std.specs.Ordering.{nat_cmp};
 ghost use Rattle.std.specs.BTreeSet.{contains};
-ghost use Rattle.br_jobs.specs.JobFilter.{listed};
+ghost use Rattle.br_jobs.specs.JobFilter.{jobs_listed};
 ghost use Rattle.br_jobs.specs.JobNumbers.{AddsNumber, AreNumbers};
 ghost use Rattle.br_jobs.specs.LocalTime.{AppendsJob, AreLinesIn};
 
@@ -73,7 +73,7 @@ pub fn list_jobs(
     zones: &Zones<'_>,
     chosen: &[&JobRows],
 ) -> Result<Vec<u8>, AllocError>
-    ensures { IfOk result (λ text. AreLinesIn zones.now chosen.now (listed filter.now jobs.now) text.items) }
+    ensures { IfOk result (λ text. AreLinesIn zones.now chosen.now (jobs_listed filter.now jobs.now) text.items) }
 {
     let numbers = numbers_of(alloc, chosen)?;
     let mut text = Vec::new(alloc);

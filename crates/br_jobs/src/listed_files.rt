@@ -1,6 +1,6 @@
 //! The files that a list of jobs needs: it counts those of the jobs that it lists.
 ghost use Rattle.std.specs.Prelude.{◌≡◌, map, IfOk};
-ghost use Rattle.br_jobs.specs.JobFilter.{listed};
+ghost use Rattle.br_jobs.specs.JobFilter.{jobs_listed};
 ghost use Rattle.br_jobs.specs.ListedFiles.{ListsAlike};
 
 use crate::job_filter::Filter;
@@ -15,7 +15,7 @@ fn listed_jobs<'h>(
     jobs: &'h [JobRows],
     filter: &Filter<'_>,
 ) -> Result<Vec<&'h JobRows>, AllocError>
-    ensures { IfOk result (λ found. map (λ j. j.now) found.items ≡ listed filter.now jobs.now) }
+    ensures { IfOk result (λ found. map (λ j. j.now) found.items ≡ jobs_listed filter.now jobs.now) }
 {
     jobs.iter().filter(|job| filter.admits(job)).collect(alloc)
 }

@@ -18,8 +18,8 @@ use Rattle.br_join.specs.Data.{laid_from}
 use Rattle.br_records.specs.Making.{cause}
 use Rattle.br_join.specs.Plain.{plain_of, plain_data, plain_bytes, fitting_all, bytes_of}
 use Rattle.br_join.specs.Source.{bytes_by, content_by}
-use Rattle.br_join.specs.declared.file_source.Source.{Source}
-use Rattle.br_join.specs.declared.file_source.Source.TheVariants.{Read}
+use Rattle.br_join.specs.declared.file_source.BytesSource.{BytesSource}
+use Rattle.br_join.specs.declared.file_source.BytesSource.TheVariants.{Read}
 use Rattle.br_records.specs.declared.making_fault.MakingFault.{MakingFault}
 use Rattle.br_records.specs.declared.making_fault.MakingFault.TheVariants.{Memory, File}
 use Rattle.br_records.proofs.ExtentLaws.{plain_extent}
@@ -197,7 +197,7 @@ abbrev tested : Attributes → List Record → List ℕ → Outcome
 tested a rs bytes = refuse_if (differs a rs bytes) (fault 66) >>= λ _. Ok (item_of a rs bytes)
 
 -- no step is refused
-pub content_made : (index : ℕ) (rs : List Record) (source : Source) (a : Attributes) (bytes : List ℕ) → refused_as fault (attributes_of index (filter (is_stream 1) rs)) ≡ Ok a
+pub content_made : (index : ℕ) (rs : List Record) (source : BytesSource) (a : Attributes) (bytes : List ℕ) → refused_as fault (attributes_of index (filter (is_stream 1) rs)) ≡ Ok a
     → unsupported rs ≡ Ok tt → bytes_by source a.kind rs ≡ Ok bytes → differs a rs bytes ≡ false → content_by index rs source ≡ Ok (item_of a rs bytes)
 unfolding content_by
 content_made index rs source a bytes attr supported read fine =
@@ -217,7 +217,7 @@ pub same_item : (a : Attributes) (rs : List Record) (path : List ℕ) (kind : �
 same_item a rs path kind stat link bytes skipped p k s l n =
     (λ i. Ok (record { path = sym p i; kind = sym k i; stat = sym s i; link = sym l i; bytes = bytes; skipped = sym n i }))
 
-by_source : (index : ℕ) (rs : List Record) (source : Source) → content_by index rs source ≡ content_with index rs (λ kind. bytes_by source kind rs)
+by_source : (index : ℕ) (rs : List Record) (source : BytesSource) → content_by index rs source ≡ content_with index rs (λ kind. bytes_by source kind rs)
 unfolding content_by content_with
 by_source index rs source = refl
 

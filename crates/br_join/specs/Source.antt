@@ -4,16 +4,16 @@ use Rattle.br_model.specs.Answer.{◌>>=◌, refuse_if, refused_as}
 use Rattle.br_model.specs.File as model
 use Rattle.br_model.specs.Record.{Record}
 use Rattle.br_join.specs.Plain.{bytes_of}
-use Rattle.br_join.specs.declared.file_source.Source.{Source}
-use Rattle.br_join.specs.declared.file_source.Source.TheVariants.{Records, Read}
+use Rattle.br_join.specs.declared.file_source.BytesSource.{BytesSource}
+use Rattle.br_join.specs.declared.file_source.BytesSource.TheVariants.{Records, Read}
 
 -- the bytes of a file of this type
-unfoldable pub bytes_by : Source → ℕ → List Record → Result (List ℕ) model.Fault
+unfoldable pub bytes_by : BytesSource → ℕ → List Record → Result (List ℕ) model.Fault
 bytes_by Records kind records = refused_as model.fault (model.file_bytes kind records)
 bytes_by (Read plain) kind records = refused_as model.fault (bytes_of kind plain)
 
 -- what the records make, as the model says, with their bytes from this source
-unfoldable pub content_by : ℕ → List Record → Source → model.Outcome
+unfoldable pub content_by : ℕ → List Record → BytesSource → model.Outcome
 content_by index records source = do
   a ← refused_as model.fault (model.attributes_of index (filter (model.is_stream 1) records))
   _ ← model.unsupported records

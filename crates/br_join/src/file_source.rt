@@ -12,7 +12,7 @@ use std::alloc::Global;
 
 /// Where the bytes of a file come from.
 #[derive(Drop)]
-pub(crate) enum Source {
+pub(crate) enum BytesSource {
     /// The data of its records, which are in memory.
     Records,
     /// These bytes: the data of its records, none of which are sparse.
@@ -66,7 +66,7 @@ fn bytes_read(alloc: Global, kind: u32, plain: FileBytes) -> Result<FileBytes, M
     Ok(plain)
 }
 
-impl Source {
+impl BytesSource {
     /// Returns the bytes of a file of this type.
     ///
     /// # Errors
@@ -82,8 +82,8 @@ impl Source {
         ensures { Answers (λ bytes. bytes) cause result (bytes_by self kind records.now) }
     {
         match self {
-            Source::Records => file_bytes(alloc, kind, records),
-            Source::Read(plain) => bytes_read(alloc, kind, plain),
+            BytesSource::Records => file_bytes(alloc, kind, records),
+            BytesSource::Read(plain) => bytes_read(alloc, kind, plain),
         }
     }
 }

@@ -9,7 +9,7 @@ ghost use Rattle.br_join.specs.Outcome.{shown};
 ghost use Rattle.br_join.specs.Plain.{plain_bytes, plain_data};
 ghost use Rattle.br_join.specs.Source.{content_by};
 
-use crate::file_source::Source;
+use crate::file_source::BytesSource;
 use crate::item::{Item, Outcome};
 use br_data::FileBytes;
 use br_match::Hit;
@@ -47,7 +47,7 @@ fn content(
     alloc: Global,
     index: FileIndex,
     records: &[FileRecord<'_>],
-    source: Source,
+    source: BytesSource,
 ) -> Result<Item, MakingFault>
     ensures { Answers (λ item. item) cause result (content_by index records.now source) }
 {
@@ -76,7 +76,7 @@ fn file_of(alloc: Global, key: FileKey, hits: &[Hit]) -> Result<Item, MakingFaul
     ensures { Answers (λ item. item) cause result (model.outcome_of key (map (λ (h : meaning.Hit). h.fragment) hits.now)) }
 {
     let records = records_of(alloc, key.index, hits)?;
-    content(alloc, key.index, &records, Source::Records)
+    content(alloc, key.index, &records, BytesSource::Records)
 }
 
 /// Returns the file that its records make, if none of its data are sparse and its plain data are
@@ -96,7 +96,7 @@ fn plain_content(
     if has_sparse_data(records) {
         return Err(MakingFault::Memory);
     }
-    content(alloc, index, records, Source::Read(plain))
+    content(alloc, index, records, BytesSource::Read(plain))
 }
 
 /// Returns the file that its fragments make, given in order of place, if none of its data are sparse

@@ -37,7 +37,7 @@ pub(crate) fn runs_of(alloc: Global, files: &[FileOf]) -> Result<Vec<usize>, All
 
 /// Files whose indexes follow one another.
 #[derive(Clone, Copy)]
-pub(crate) struct Run {
+pub(crate) struct IndexRun {
     /// The first index.
     pub(crate) low: u64,
     /// The last one.
@@ -83,7 +83,7 @@ fn index_of(file: FileOf) -> u64
 }
 
 /// Returns the run that begins at a place.
-pub(crate) fn run_at(files: &[FileOf], runs: &[usize], place: usize) -> Run
+pub(crate) fn run_at(files: &[FileOf], runs: &[usize], place: usize) -> IndexRun
     requires runs { AreRuns files.now runs.now }
     requires inside { place < length files.now }
     ensures first { IsFirstRun (drop place files.now) result.low result.high (result.end - place) }
@@ -95,7 +95,7 @@ pub(crate) fn run_at(files: &[FileOf], runs: &[usize], place: usize) -> Run
     let first = file_at(files, place);
     let end = end_of(place, len_at(runs, place), files.len());
     let last = file_at(files, end.saturating_sub(1));
-    Run {
+    IndexRun {
         low: index_of(first),
         high: index_of(last),
         end,

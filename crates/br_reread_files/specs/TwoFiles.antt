@@ -84,8 +84,8 @@ abbrev pub GivesBoth : RereadingMany → List Hit → FileKey → FileKey → It
 GivesBoth many hits key later one other = GivesItem many hits key one × GivesItem many hits later other
 
 -- the files of these two, by their keys
-abbrev pub files : KeyedItem → KeyedItem → Item × Item
-files one other = (one.item.now, other.item.now)
+abbrev pub keyed_files : KeyedItem → KeyedItem → Item × Item
+keyed_files one other = (one.item.now, other.item.now)
 
 -- what was gathered is read again as it was found, and the hits with the keys of these two make their files
 abbrev pub GivesKeyed : RereadingMany → Gathered → KeyedItem → KeyedItem → Type 0

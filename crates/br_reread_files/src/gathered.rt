@@ -14,7 +14,7 @@ ghost use Rattle.br_reread_parts.specs.FileParts.{PutsAlike};
 ghost use Rattle.br_reread_files.specs.FileParts.{GivesItem};
 ghost use Rattle.br_reread_parts.specs.Given.{GivesHits};
 ghost use Rattle.br_reread_files.specs.TwoFiles.{ChangesAny, ChangesEither, FailsAny, FailsEither, GivesKeyed, LosesAny, LosesEither};
-ghost use Rattle.br_reread_files.specs.TwoFiles.{PutsAny, PutsTwo, files};
+ghost use Rattle.br_reread_files.specs.TwoFiles.{PutsAny, PutsTwo, keyed_files};
 
 use crate::files_once_more::made_once_more;
 use crate::light_hits::lightened;
@@ -180,7 +180,7 @@ impl Gathered {
         other: &KeyedItem<'_>,
         sink: &mut S,
     ) -> Option<TwoDone>
-        ensures put { PutsAny result (GivesKeyed many.old self.now one.now other.now) (files one.now other.now) (S.has sink.old) (S.has sink.new) }
+        ensures put { PutsAny result (GivesKeyed many.old self.now one.now other.now) (keyed_files one.now other.now) (S.has sink.old) (S.has sink.new) }
         ensures counted { S.failures sink.old ≤ S.failures sink.new }
         ensures failed { FailsAny result → S.failures sink.old < S.failures sink.new }
         ensures changed { ChangesAny result → GivesKeyed many.old self.now one.now other.now → ⊥ }
@@ -215,7 +215,7 @@ impl Gathered {
         other: &KeyedItem<'_>,
         sink: &mut S,
     ) -> TwoDone
-        ensures put { PutsTwo result (GivesKeyed many.old self.now one.now other.now) (files one.now other.now) (S.has sink.old) (S.has sink.new) }
+        ensures put { PutsTwo result (GivesKeyed many.old self.now one.now other.now) (keyed_files one.now other.now) (S.has sink.old) (S.has sink.new) }
         ensures counted { S.failures sink.old ≤ S.failures sink.new }
         ensures failed { FailsEither result → S.failures sink.old < S.failures sink.new }
         ensures changed { ChangesEither result → GivesKeyed many.old self.now one.now other.now → ⊥ }
@@ -250,7 +250,7 @@ impl Gathered {
         other: &KeyedItem<'_>,
         sink: &mut S,
     ) -> TwoDone
-        ensures put { PutsTwo result (GivesKeyed many.old self.now one.now other.now) (files one.now other.now) (S.has sink.old) (S.has sink.new) }
+        ensures put { PutsTwo result (GivesKeyed many.old self.now one.now other.now) (keyed_files one.now other.now) (S.has sink.old) (S.has sink.new) }
         ensures counted { S.failures sink.old ≤ S.failures sink.new }
         ensures failed { FailsEither result → S.failures sink.old < S.failures sink.new }
         ensures changed { ChangesEither result → GivesKeyed many.old self.now one.now other.now → ⊥ }

@@ -11,7 +11,7 @@ use Rattle.br_fs.specs.Append.{AppendsInPart}
 use Rattle.br_fs.specs.declared.kind.Kind.TheVariants.{File}
 use Rattle.br_fs.proofs.AppendLaws.{appends_both}
 use Rattle.br_volume.specs.Store.{AppendsTo, AppendsInPartTo, IsAppended, IsLengthIn}
-use Rattle.br_volume.specs.Folder.{IsReady, file_path, volumes_in, volumes_told}
+use Rattle.br_volume.specs.Folder.{CanAppend, file_path, volumes_in, volumes_told}
 use Rattle.br_volume.proofs.FolderLaws.{name_of, volume_below}
 
 module _ (folder : List ℕ) where
@@ -75,27 +75,27 @@ module _ (folder : List ℕ) where
       ap (λ (o : Option (List ℕ)). length (unwrap_or o [])) (sym (volume_below folder volume e.files ∙ f))
 
 -- after a file is ready, bytes are appended to it
-pub after_ready : (path bytes : List ℕ) (first second third : Option Tree) → IsReady path first second → Appends path bytes second third
+pub after_ready : (path bytes : List ℕ) (first second third : Option Tree) → CanAppend path first second → Appends path bytes second third
     → Appends path bytes first third
 after_ready path bytes first second third (inl same) a = rw same at a
 after_ready path bytes first second third (inr made) a = appends_both path [] bytes first second third made a
 
-pub part_after_ready : (path bytes : List ℕ) (first second third : Option Tree) → IsReady path first second
+pub part_after_ready : (path bytes : List ℕ) (first second third : Option Tree) → CanAppend path first second
     → AppendsInPart path bytes second third → AppendsInPart path bytes first third
 part_after_ready path bytes first second third ready (inr a) = inr (a.0, a.1, a.2, after_ready path a.0 first second third ready a.3)
 part_after_ready path bytes first second third (inl same) (inl kept) = inl (kept ∙ same)
 part_after_ready path bytes first second third (inr made) (inl kept) = inr ([], bytes, refl, rw (sym kept) at made)
 
-pub ready_held : (path : List ℕ) (told : Option Tree) → IsReady path told told
+pub ready_held : (path : List ℕ) (told : Option Tree) → CanAppend path told told
 ready_held path told = inl refl
 
 pub ready_same : {A E : Type 0} (result : Result A E) (path : List ℕ) (first second third : Option Tree) → second ≡ first → third ≡ second
-    → OnOk result (IsReady path first third)
+    → OnOk result (CanAppend path first third)
 ready_same (Ok x) path first second third one two = inl (two ∙ one)
 ready_same (Err e) path first second third one two = tt
 
 pub ready_made : {A E : Type 0} (result : Result A E) (path : List ℕ) (first second third : Option Tree) → second ≡ first
-    → OnOk result (Appends path [] second third) → OnOk result (IsReady path first third)
+    → OnOk result (Appends path [] second third) → OnOk result (CanAppend path first third)
 ready_made (Ok x) path first second third same made = inr (rw same at made)
 ready_made (Err e) path first second third same made = tt
 

@@ -99,8 +99,8 @@ IsCut size was now End = (was ≡ []) × (now ≡ [])
 IsCut size was now (Block n) = (0 < length was) × (now ≡ take size was) × (n ≡ length now)
 
 -- the file at the path exists and can be appended to, or an empty one was made
-abbrev pub IsReady : List ℕ → Option Tree → Option Tree → Type 0
-IsReady path earlier later = (later ≡ earlier) ⊎ Appends path [] earlier later
+abbrev pub CanAppend : List ℕ → Option Tree → Option Tree → Type 0
+CanAppend path earlier later = (later ≡ earlier) ⊎ Appends path [] earlier later
 
 -- If the disk tells that nothing is at the path, does not fail by itself and is not interrupted,
 -- a call there is refused only if memory runs out.

@@ -8,7 +8,7 @@ use Rattle.br_volume.specs.declared.drive.Got.TheVariants.{Block, End}
 use Rattle.br_volume.specs.declared.fault.DriveFault.{DriveFault}
 use Rattle.br_volume.specs.MemStore.{with_appended}
 -- the volumes that are kept as pairs of a name and bytes, in their order
-pub use Rattle.br_fs.specs.Memory.{files_of as volumes_of}
+pub use Rattle.br_fs.specs.Memory.{kept_files as volumes_of}
 
 -- its volumes, the tails that it is to append, the next one first, whether it was called before, the
 -- number of calls before it fails, if it is to fail, the number of bytes that it gave, at most

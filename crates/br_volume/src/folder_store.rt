@@ -4,7 +4,7 @@ ghost use Rattle.br_fs.specs.Append.{AppendsInPart};
 ghost use Rattle.br_fs.specs.Calls.{Appends, IsFile, IsNoFile};
 ghost use Rattle.br_fs.specs.Durable.{Lasts, NamesFiles};
 ghost use Rattle.br_volume.specs.Store.{FailsOn, IsDurableIn, IsLengthIn};
-ghost use Rattle.br_volume.specs.Folder.{AppendsBelow, AppendsInPartBelow, AreNamedIf, IsKnownFree, IsNamedAt, IsReady, IsSyncedAt, IsSyncedBelow};
+ghost use Rattle.br_volume.specs.Folder.{AppendsBelow, AppendsInPartBelow, AreNamedIf, IsKnownFree, IsNamedAt, CanAppend, IsSyncedAt, IsSyncedBelow};
 ghost use Rattle.br_volume.specs.Folder.{durable_told, store_over, volumes_told};
 ghost use Rattle.br_volume.specs.declared.fault.DriveFault.TheVariants.{Memory};
 
@@ -52,7 +52,7 @@ fn make<D: Disk>(disk: &mut D, path: &str) -> Result<D::File, DriveFault>
 #[tactic(auto, using(crate::proofs::FolderLaws::file_of, crate::proofs::StoreLaws::ready_same, crate::proofs::StoreLaws::ready_made, crate::proofs::FreeLaws::still_free, crate::proofs::FreeLaws::found_never, crate::proofs::FreeLaws::other_fault))]
 pub fn open_or_make<D: Disk>(disk: &mut D, path: &str) -> Result<D::File, DriveFault>
     ensures opened { IfOk result (λ file. D.path_of file ≡ path.now) }
-    ensures ready { OnOk result (IsReady path.now (D.told disk.old) (D.told disk.new)) }
+    ensures ready { OnOk result (CanAppend path.now (D.told disk.old) (D.told disk.new)) }
     ensures refused { OnErr result (D.told disk.new ≡ D.told disk.old) }
     ensures lasts { Lasts (D.durable disk.old) (D.durable disk.new) }
     ensures always { IsKnownFree (D.steady disk.old) (D.told disk.old) path.now → IfErr result (λ fault. fault ≡ Memory) }
@@ -68,7 +68,7 @@ pub fn open_or_make<D: Disk>(disk: &mut D, path: &str) -> Result<D::File, DriveF
 #[tactic(auto, using(crate::proofs::StoreLaws::ready_held))]
 fn opened<D: Disk>(disk: &mut D, held: Option<D::File>, path: &str) -> Result<D::File, DriveFault>
     ensures opened { IfOk result (λ file. D.path_of file ≡ path.now) }
-    ensures ready { OnOk result (IsReady path.now (D.told disk.old) (D.told disk.new)) }
+    ensures ready { OnOk result (CanAppend path.now (D.told disk.old) (D.told disk.new)) }
     ensures refused { OnErr result (D.told disk.new ≡ D.told disk.old) }
     ensures lasts { Lasts (D.durable disk.old) (D.durable disk.new) }
 {

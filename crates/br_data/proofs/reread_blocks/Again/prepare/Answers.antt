@@ -1,5 +1,5 @@
 use Rattle.std.proofs.Common.{◌≡◌, true}
-use Rattle.br_data.specs.KnownBlocks.{IsReady, knows}
+use Rattle.br_data.specs.KnownBlocks.{GivesBytes, knows}
 use Rattle.br_data.proofs.KnownLaws.{gone_if_none, ready_if_known}
 use Rattle.br_data.proofs.ReadLaws.{on_ok_then}
 use Rattle.br_data.proofs.reread_blocks.Again.prepare.Goals as goal
@@ -10,7 +10,7 @@ returns-clause-same g c =
     let later = g.D.Drive.shows c.fetch.new.drive in
     let place = c.args.place.now in
     let known = c.fetch.new.self in
-    on_ok_then c.fetch.result (knows place known ≡ true) (IsReady earlier place c.args.found.now known) c.fetch.ensures.fetched
+    on_ok_then c.fetch.result (knows place known ≡ true) (GivesBytes earlier place c.args.found.now known) c.fetch.ensures.fetched
     (ready_if_known earlier later place c.args.found.now known c.fetch.ensures.grows c.fetch.ensures.known)
 
 pub returns-clause-gone : goal.returns-clause-gone

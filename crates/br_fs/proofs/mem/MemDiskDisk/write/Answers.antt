@@ -1,5 +1,5 @@
 use Rattle.std.proofs.Common.{rules, take}
-use Rattle.br_fs.specs.Memory.{files_of}
+use Rattle.br_fs.specs.Memory.{kept_files}
 use Rattle.br_fs.proofs.AppendLaws.{appended_is}
 use Rattle.br_fs.proofs.DurableLaws.{appended_lasts}
 use Rattle.br_fs.proofs.mem.MemDiskDisk.write.Goals as goal
@@ -12,4 +12,4 @@ returns-clause-written c = record {
 
 pub returns-clause-lasts : goal.returns-clause-lasts
 returns-clause-lasts c =
-    appended_lasts c.args.file.now (take c.match-self.n c.args.bytes.now) c.args.self.now.tree.files (files_of c.append_to.new.files.items) c.args.self.now.synced c.match-self.self-inside.synced.items (search rules) (search rules)
+    appended_lasts c.args.file.now (take c.match-self.n c.args.bytes.now) c.args.self.now.tree.files (kept_files c.append_to.new.files.items) c.args.self.now.synced c.match-self.self-inside.synced.items (search rules) (search rules)
