@@ -7,10 +7,10 @@
 
 mod attr;
 mod fault;
-mod number;
+mod number64;
 mod stat;
 
 pub use attr::{Attr, write_attributes};
 pub use fault::AttrFault;
-pub use number::{read_number, write_number};
+pub use number64::{read_number, write_number};
 pub use stat::Stat;

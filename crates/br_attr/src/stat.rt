@@ -7,7 +7,7 @@ ghost use Rattle.br_model.specs.Text.{words};
 ghost use Rattle.br_attr.specs.Fault.{fault_number};
 
 use crate::fault::AttrFault;
-use crate::number::{read_number, write_number};
+use crate::number64::{read_number, write_number};
 use std::alloc::{AllocError, Global};
 use std::marker::Model;
 

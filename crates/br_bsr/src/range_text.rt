@@ -6,8 +6,8 @@ ghost use Rattle.br_bsr.specs.Fault.{refusal_cause};
 ghost use Rattle.br_bsr.specs.Statement.{criterion_of, range_between};
 
 use crate::criterion::Criterion;
+use crate::digits::digits_of;
 use crate::fault::LineRefusal;
-use crate::number::digits_of;
 use crate::range::Range;
 use crate::scan::cut;
 use br_types::trimmed;

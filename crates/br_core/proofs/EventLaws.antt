@@ -7,7 +7,7 @@ use Rattle.br_core.specs.Machine as machine
 use Rattle.br_core.specs.Machine.{World, AreAfter, IsRead, IsTaken, restore_at, stages_of}
 use Rattle.br_core.specs.Moving.{commits_at}
 use Rattle.br_core.specs.Stepping.{IsEventOf, world_with}
-use Rattle.br_core.specs.declared.restore.OpenRestore.{OpenRestore}
+use Rattle.br_core.specs.declared.open_restore.OpenRestore.{OpenRestore}
 use Rattle.br_core.specs.Machine.Event.{Claim, Fail, Finish, Read, Take}
 use Rattle.br_core.specs.Reached.{IsReached}
 use Rattle.br_core.specs.Reading.{CanBeRead}

@@ -21,7 +21,7 @@ use Rattle.br_core.specs.View.{CannotMove, IsSeenAs, MovesIf, TellsWhole, restor
 use Rattle.br_core.specs.declared.event.Reply.TheVariants as given
 use Rattle.br_core.specs.declared.fault.StepFault.{StepFault}
 use Rattle.br_core.specs.declared.fault.StepFault.TheVariants.{Memory, NotEnabled}
-use Rattle.br_core.specs.declared.restore.OpenRestore.{OpenRestore}
+use Rattle.br_core.specs.declared.open_restore.OpenRestore.{OpenRestore}
 
 same_restore : (r s : OpenRestore) → ◌≡◌ {A = Option (Option OpenRestore)} (Some (Some r)) (Some (Some s)) → r ≡ s
 same_restore r s e = same_Some r s (same_Some (Some r) (Some s) e)

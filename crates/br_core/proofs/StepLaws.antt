@@ -30,7 +30,7 @@ use Rattle.br_core.specs.declared.event.Reply.{Reply}
 use Rattle.br_core.specs.declared.event.Reply.TheVariants as given
 use Rattle.br_core.specs.declared.fault.StepFault.{StepFault}
 use Rattle.br_core.specs.declared.fault.StepFault.TheVariants.{Memory, NotEnabled}
-use Rattle.br_core.specs.declared.restore.OpenRestore.{OpenRestore}
+use Rattle.br_core.specs.declared.open_restore.OpenRestore.{OpenRestore}
 use Rattle.br_core.proofs.BackupLaws.{no_backups}
 use Rattle.br_core.proofs.EventLaws.{finish_is, planned_over, planned_since, read_is}
 use Rattle.br_core.proofs.MovingLaws.{found_at, kept_at}

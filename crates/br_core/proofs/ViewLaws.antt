@@ -19,7 +19,7 @@ use Rattle.br_core.specs.Statuses.{is_finished, status_of}
 use Rattle.br_core.specs.View.{CannotMove, Claims, Fails, Finishes, MovesIf, hits_of_batch, hits_of_batches, restore_of}
 use Rattle.br_core.specs.declared.fault.StepFault.{StepFault}
 use Rattle.br_core.specs.declared.fault.StepFault.TheVariants.{NotEnabled}
-use Rattle.br_core.specs.declared.restore.OpenRestore.{OpenRestore}
+use Rattle.br_core.specs.declared.open_restore.OpenRestore.{OpenRestore}
 use Rattle.br_core.specs.declared.piece_status.Status as code
 use Rattle.br_core.specs.declared.piece_status.Status.TheVariants as at
 use Rattle.br_core.proofs.MoveLaws.{AreOf, ends, no_end, no_read, not_ended, not_read, reads, stood}

@@ -20,7 +20,7 @@ use Rattle.br_core.specs.Machine.{IsWhole}
 use Rattle.br_core.specs.Machine.Status.{Waiting, Claimed, Finished}
 use Rattle.br_core.specs.Statuses.{is_finished, status_of}
 use Rattle.br_core.specs.View.{TellsWhole, hits_of_batches}
-use Rattle.br_core.specs.declared.restore.OpenRestore.{OpenRestore}
+use Rattle.br_core.specs.declared.open_restore.OpenRestore.{OpenRestore}
 use Rattle.br_core.specs.declared.piece_status.Status as code
 use Rattle.br_core.specs.declared.piece_status.Status.TheVariants as at
 

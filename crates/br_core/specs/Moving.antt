@@ -10,9 +10,9 @@ use Rattle.br_core.specs.Reading.{CanBeRead}
 use Rattle.br_core.specs.View.{CannotMove, Claims, Fails, Finishes, MovesIf, TellsWhole, restore_of}
 use Rattle.br_core.specs.declared.fault.StepFault.{StepFault}
 use Rattle.br_core.specs.declared.fault.StepFault.TheVariants.{Memory, NotEnabled}
-use Rattle.br_core.specs.declared.restore.Move.{Move}
-use Rattle.br_core.specs.declared.restore.Move.TheVariants.{Claim, Read, Fail, Finish, Take}
-use Rattle.br_core.specs.declared.restore.OpenRestore.{OpenRestore}
+use Rattle.br_core.specs.declared.open_restore.Move.{Move}
+use Rattle.br_core.specs.declared.open_restore.Move.TheVariants.{Claim, Read, Fail, Finish, Take}
+use Rattle.br_core.specs.declared.open_restore.OpenRestore.{OpenRestore}
 
 -- the condition of a move on the restore
 abbrev pub asked : Move → machine.Restore → Type 0

@@ -17,7 +17,7 @@ use Rattle.br_core.specs.View.{restore_of}
 use Rattle.br_core.specs.declared.event.Reply.{Reply}
 use Rattle.br_core.specs.declared.event.Reply.TheVariants as given
 use Rattle.br_core.specs.declared.fault.StepFault.{StepFault}
-use Rattle.br_core.specs.declared.restore.OpenRestore.{OpenRestore}
+use Rattle.br_core.specs.declared.open_restore.OpenRestore.{OpenRestore}
 
 -- the state of these jobs and volumes with some restores
 abbrev pub world_with : World → List (Option OpenRestore) → World

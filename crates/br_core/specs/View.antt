@@ -13,7 +13,7 @@ use Rattle.br_core.specs.Reading.{CanBeRead}
 use Rattle.br_core.specs.Statuses.{status_of}
 use Rattle.br_core.specs.declared.fault.StepFault.{StepFault}
 use Rattle.br_core.specs.declared.fault.StepFault.TheVariants.{Memory, NotEnabled}
-use Rattle.br_core.specs.declared.restore.OpenRestore.{OpenRestore}
+use Rattle.br_core.specs.declared.open_restore.OpenRestore.{OpenRestore}
 
 -- the hits of a batch that is on its way, and those of some batches
 abbrev pub hits_of_batch : ℕ × Batch → List Hit

@@ -5,12 +5,12 @@ mod backups;
 mod committing;
 mod event;
 mod fault;
+mod machine_runs;
+mod open_restore;
 mod piece_status;
 mod planning;
 mod reading;
-mod restore;
 mod restores;
-mod running;
 mod steps;
 mod world;
 
@@ -19,7 +19,7 @@ ghost use Rattle.br_core.specs.Laws.{Headline, HitsOfARun, JobsHold};
 pub use committing::prepared;
 pub use event::{Event, Reply};
 pub use fault::StepFault;
-pub use running::run;
+pub use machine_runs::run;
 pub use world::World;
 
 /// States that at every point of every run the hits of a restore are hits that its bootstrap means.

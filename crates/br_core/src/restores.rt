@@ -5,7 +5,7 @@ ghost use Rattle.br_core.specs.Stepping.{StepsOfOne};
 
 use crate::event::Reply;
 use crate::fault::StepFault;
-use crate::restore::{Move, OpenRestore};
+use crate::open_restore::{Move, OpenRestore};
 use br_join::Outcome;
 use br_types::FileKey;
 use std::alloc::{AllocError, Global};

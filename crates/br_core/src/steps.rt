@@ -12,8 +12,8 @@ ghost use Rattle.br_core.specs.Stepping.{CommitsBeside, PlansRestore, RestoresSt
 use crate::backups::Backups;
 use crate::event::{Event, Reply};
 use crate::fault::StepFault;
+use crate::open_restore::{Move, OpenRestore};
 use crate::planning::planned;
-use crate::restore::{Move, OpenRestore};
 use crate::restores::{add, commits_of, deliver, step_of_one};
 use br_history::SavedJob;
 use br_mark::Command;

@@ -9,7 +9,7 @@ ghost use Rattle.br_core.specs.Stepping.{TakesStep};
 use crate::backups::Backups;
 use crate::event::{Event, Reply};
 use crate::fault::StepFault;
-use crate::restore::OpenRestore;
+use crate::open_restore::OpenRestore;
 use crate::steps::take_step;
 use std::alloc::Global;
 use std::marker::Model;

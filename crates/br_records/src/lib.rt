@@ -14,7 +14,7 @@ mod making_fault;
 mod outline;
 mod parts;
 mod record_data;
-mod runs;
+mod sorted_hits;
 mod streams;
 
 ghost use Rattle.br_records.specs.Outline.{OutlinesForesee};
@@ -24,7 +24,7 @@ pub use file_record::{FileRecord, records_of};
 pub use making_fault::{FileFault, MakingFault};
 pub use outline::{Outline, Sketch, sketches_of};
 pub use record_data::GREATEST_LEN;
-pub use runs::{around, settle};
+pub use sorted_hits::{around, settle};
 pub use streams::{
     ATTRIBUTES, DATA, DIGEST, checks_digest, count_in, first_in, has_bytes, has_sparse_data,
     refuse_unsupported, skipped_in,

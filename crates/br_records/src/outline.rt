@@ -11,7 +11,7 @@ use crate::attributes::attributes_of;
 use crate::file_record::{FileRecord, records_of};
 use crate::making_fault::{FileFault, MakingFault};
 use crate::record_data::size_of;
-use crate::runs::around;
+use crate::sorted_hits::around;
 use crate::streams::refuse_unsupported;
 use br_match::Hit;
 use br_types::{FileIndex, FileKey, Path};

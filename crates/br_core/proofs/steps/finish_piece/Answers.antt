@@ -2,7 +2,7 @@ use Rattle.std.proofs.Common.{◌≡◌, List, Option, None, Some, subst, sym}
 use Rattle.std.specs.Prelude.{slice_get}
 use Rattle.br_volume.specs.Memory.{volumes_of}
 use Rattle.br_core.specs.Moving.{commits_at}
-use Rattle.br_core.specs.declared.restore.OpenRestore.{OpenRestore}
+use Rattle.br_core.specs.declared.open_restore.OpenRestore.{OpenRestore}
 use Rattle.br_core.proofs.StepLaws.{finish_given, finish_none, finish_over}
 use Rattle.br_core.proofs.steps.finish_piece.Goals as goal
 

@@ -4,7 +4,7 @@ use Rattle.br_mark.specs.Said.{said}
 use Rattle.br_core.specs.Machine.Event.{Plan}
 use Rattle.br_core.specs.Stepping.{RestoresStep, world_with}
 use Rattle.br_core.specs.declared.event.Reply.TheVariants.{Planned}
-use Rattle.br_core.specs.declared.restore.OpenRestore.{OpenRestore}
+use Rattle.br_core.specs.declared.open_restore.OpenRestore.{OpenRestore}
 use Rattle.br_core.proofs.StepLaws.{plan_begins, plan_refused}
 use Rattle.br_core.proofs.steps.plan_restore.Goals as goal
 

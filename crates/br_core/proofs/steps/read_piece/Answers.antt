@@ -1,7 +1,7 @@
 use Rattle.std.proofs.Common.{List, Option, None, Some, subst}
 use Rattle.br_volume.specs.Memory.{volumes_of}
 use Rattle.br_core.specs.Stepping.{ShowsTo}
-use Rattle.br_core.specs.declared.restore.OpenRestore.{OpenRestore}
+use Rattle.br_core.specs.declared.open_restore.OpenRestore.{OpenRestore}
 use Rattle.br_core.proofs.StepLaws.{read_given, read_none}
 use Rattle.br_core.proofs.steps.read_piece.Goals as goal
 
