@@ -6,7 +6,7 @@ use Rattle.std.specs.Int.{from_le_bytes, w64}
 use Rattle.std.proofs.Math.Nat.{mul_assoc, pow-suc}
 use Rattle.std.proofs.Math.Seq.{take-add}
 use Rattle.std.proofs.lemmas.Nat.{shr_below, xor_comm, xor_mod, xor_shr}
-use Rattle.std.proofs.lemmas.List.{length-drop, length-take, take-append-drop}
+use Rattle.std.proofs.lemmas.List.{length-drop, length-take}
 use Rattle.std.proofs.lemmas.List.Sums.{fold-append}
 use lib.Bits.{xor_assoc, xor_shifted, xor_zero_r}
 use Rattle.br_block.specs.Crc.{after, next, shifted, shifted_by, taken}
@@ -175,7 +175,3 @@ word_more r place bytes =
     let more : place * 8 + 8 ≡ (place + 1) * 8 = omega arith in
     sym (fold-append next r (take (place * 8) bytes) (take 8 (drop (place * 8) bytes)))
     ∙ ap (after r) (sym (take-add (place * 8) 8 bytes) ∙ ap (λ n. take n bytes) more)
-
--- the words, and then the rest
-pub words_and_rest : (n r : ℕ) (bytes : List ℕ) → after (after r (take n bytes)) (drop n bytes) ≡ after r bytes
-words_and_rest n r bytes = sym (fold-append next r (take n bytes) (drop n bytes)) ∙ ap (after r) (take-append-drop n bytes)

@@ -49,11 +49,6 @@ pub items_end : (c : model.Criterion) (ranges : List model.Range) (item : List �
 unfolding read_items
 items_end c ranges item r e = rw e refl
 
--- with nothing read yet
-pub behind_nothing : (rest : Result (List model.Range) ℕ) → behind [] rest ≡ rest
-behind_nothing (Ok more) = refl
-behind_nothing (Err e) = refl
-
 -- ---- one item of a text, and what follows it
 
 pub one_more : (c : model.Criterion) (ranges : List model.Range) (rest item items : List ℕ) (r : model.Range) → list_any is_comma rest ≡ true

@@ -1,11 +1,11 @@
 -- A step of a walk, by what its parts say.
-use Rattle.std.proofs.Common.{◌≡◌, ℕ, ◌+◌, ◌<◌, ◌≤◌, ◌^◌, List, [], length, Option, Err, true, false, refl, sym, subst, arith, append-nil}
+use Rattle.std.proofs.Common.{◌≡◌, ℕ, ◌+◌, ◌≤◌, List, [], length, Option, Err, true, false, refl, sym, subst, append-nil}
 use Rattle.br_model.specs.Block.{read_header}
 use Rattle.br_model.specs.Bootstrap.{Group}
 use Rattle.br_model.specs.Meaning.{bound_of, is_covered, just_groups}
 use Rattle.br_model.specs.Volume.{Volume, is_above}
 use Rattle.br_check.specs.ChecksumBlocks.{differing_line, lines_from}
-use Rattle.br_check.specs.ChecksumWalk.{AreAt, ArePassed, GoesOn, HasSize, InLater, InShown, IsCompared, IsStep}
+use Rattle.br_check.specs.ChecksumWalk.{AreAt, ArePassed, HasSize, InLater, InShown, IsCompared, IsStep}
 use Rattle.br_check.specs.declared.checksum_walk.ChecksumStep.{ChecksumStep}
 use Rattle.br_check.specs.declared.checksum_walk.ChecksumStep.TheVariants.{Ended, Failed, Passed}
 use Rattle.br_check.proofs.BlockLaws.{lines_above, lines_bad, lines_past}
@@ -40,16 +40,3 @@ module _ (shown : Option (List Volume)) (failures failed : ℕ) (volume : List �
       (line, is.2, subst (λ (m : ℕ). ArePassed shown volume gs a (a + m) line) (sym is.0) (passed_asked shown volume gs a size got near covered has is.1 at))
   compared_step size got after Ended near covered has at is = (is.1, ended_cut shown volume gs a size got near covered has is.0 at)
   compared_step size got after Failed near covered has at is = absurd is
-
--- where it goes on
-pub compared_on : (volume : List ℕ) (a size : ℕ) (got before after : List ℕ) (step : ChecksumStep) → a < 2 ^ 63 → 16 ≤ size → IsCompared volume a size got before after step → GoesOn a step
-compared_on volume a size got before after (Passed n) low least is = (low, omega (arith, least, is.0))
-compared_on volume a size got before after Ended low least is = tt
-compared_on volume a size got before after Failed low least is = absurd is
-
--- a step after another call of the drive
-pub step_sooner : (shown : Option (List Volume)) (f h failed : ℕ) (volume : List ℕ) (gs : List (ℕ × Group)) (a : ℕ) (before after : List ℕ) (step : ChecksumStep) → f ≤ h
-    → IsStep shown h failed volume gs a before after step → IsStep shown f failed volume gs a before after step
-step_sooner shown f h failed volume gs a before after (Passed n) fewer is = is
-step_sooner shown f h failed volume gs a before after Ended fewer is = is
-step_sooner shown f h failed volume gs a before after Failed fewer is = (is.0, omega (arith, fewer, is.1))

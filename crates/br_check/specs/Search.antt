@@ -1,7 +1,7 @@
 -- What was found for the pieces of a bootstrap.
 use Rattle.std.specs.Prelude.{◌≡◌, List, [], flat_map, IfOk, Result, Ok, Err}
 use Rattle.std.specs.List.{AllZip}
-use Rattle.br_model.specs.Meaning.{Hit, Hits, Piece, hits_of}
+use Rattle.br_model.specs.Meaning.{Hit, Piece}
 use Rattle.br_match.specs.Fault.{FailsWithDrive}
 use Rattle.br_match.specs.Matching.{FoundOver}
 use Rattle.br_match.specs.Walk.{NamesReached}
@@ -43,7 +43,3 @@ found_in (Err fault) = []
 -- the hits that were found for all pieces
 abbrev pub all_found : List Searched → List Hit
 all_found results = flat_map found_in results
-
--- the set of them
-abbrev pub set_found : List Searched → Hits
-set_found results = hits_of (all_found results)

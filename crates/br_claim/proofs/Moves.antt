@@ -202,16 +202,8 @@ drew_at : (limit found past : ℕ) (items : List ℕ) (w : Hand) (b : Bool) → 
 drew_at limit found past items w true e d = d
 drew_at limit found past items w false e d = absurd (cc)
 
-drew_past : (limit found past : ℕ) (items : List ℕ) (w : Hand) (b : Bool) → b ≡ false
-    → MatchBool b ((w ≡ hand limit 1 (items ++ found ∷ []) past) × AllUnder found items) (w ≡ hand limit 1 items (past + 1)) → w ≡ hand limit 1 items (past + 1)
-drew_past limit found past items w true e d = absurd (cc)
-drew_past limit found past items w false e d = d
-
 pub drew_hit : (limit found past : ℕ) (items : List ℕ) (v w : Hand) → v ≡ hand limit 1 items past → found < limit → Drew v found w → (w ≡ hand limit 1 (items ++ found ∷ []) past) × AllUnder found items
 drew_hit limit found past items v w e low d = let P : Hand → Type 0 = λ y. Drew y found w in drew_at limit found past items w (ltb found limit) (grind (arith, nat_tests)) (subst P e d)
-
-pub drew_miss : (limit found past : ℕ) (items : List ℕ) (v w : Hand) → v ≡ hand limit 1 items past → limit ≤ found → Drew v found w → w ≡ hand limit 1 items (past + 1)
-drew_miss limit found past items v w e high d = let P : Hand → Type 0 = λ y. Drew y found w in drew_past limit found past items w (ltb found limit) (grind (arith, nat_tests)) (subst P e d)
 
 -- the claims' own view after these seats are joined
 pub with_seats-snoc : (v : Hand) (ss : List Seated) (s : Seated) → with_seats v (ss ++ s ∷ []) ≡ with_seat (with_seats v ss) s

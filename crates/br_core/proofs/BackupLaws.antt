@@ -1,7 +1,7 @@
 -- Jobs that were committed, and one more.
-use Rattle.std.proofs.Common.{◌≡◌, ℕ, zero, suc, ◌+◌, ◌<◌, List, [], ◌∷◌, ◌++◌, length, take, get_or, map, Option, Some, None, Result, Ok, Err, OnErr, OnOk, refl, sym, ap, subst, ◌∙◌, inl, inr, arith}
+use Rattle.std.proofs.Common.{◌≡◌, ℕ, suc, ◌+◌, ◌<◌, List, [], ◌∷◌, ◌++◌, length, take, get_or, map, Option, Some, None, Result, Ok, Err, OnErr, OnOk, refl, sym, ap, subst, ◌∙◌, inl, inr, arith}
 use Rattle.std.proofs.lemmas.List.{length-append, length-map, take_more, map-append}
-use Rattle.std.specs.Prelude.{IfSome, slice_get}
+use Rattle.std.specs.Prelude.{IfSome}
 use Rattle.std.specs.Global.{Vec}
 use Rattle.std.specs.List.{AllByRecursion}
 use Rattle.br_model.specs.Answer.{◌>>=◌, Answers}
@@ -229,12 +229,3 @@ are_whole w history commits volumes same are = subst (λ (it : World). AreWhole 
 pub no_backups : AreBackups [] [] []
 unfolding volume_bytes
 no_backups = record { each = refl; whole = λ name. ([], inl refl) }
-
--- ---- stages
-
--- what is at a place of a list with one element more
-pub stage_at : {X : Type 0} (xs : List X) (x : X) (n : ℕ) → (n ≡ length xs → ⊥) → slice_get (xs ++ x ∷ []) n ≡ slice_get xs n
-stage_at [] x zero apart = absurd (apart refl)
-stage_at [] x (suc n) apart = refl
-stage_at (y ∷ ys) x zero apart = refl
-stage_at (y ∷ ys) x (suc n) apart = stage_at ys x n (λ e. apart (ap suc e))

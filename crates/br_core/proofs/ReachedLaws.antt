@@ -1,14 +1,13 @@
 -- What holds of a state to which a run from nothing leads.
-use Rattle.std.proofs.Common.{◌≡◌, ℕ, ◌<◌, max, Bool, true, false, cond, List, [], ◌∷◌, ◌++◌, length, fold, Some, None, refl, sym, ap, subst, ◌∙◌, inl, inr, arith}
+use Rattle.std.proofs.Common.{◌≡◌, ℕ, ◌<◌, max, Bool, true, false, cond, List, [], ◌∷◌, ◌++◌, length, fold, Some, None, refl, sym, ap, subst, ◌∙◌, arith}
 use Rattle.std.proofs.lemmas.Option.{same_Some}
-use Rattle.std.specs.Prelude.{Contains, slice_get}
+use Rattle.std.specs.Prelude.{slice_get}
 use Rattle.std.specs.List.{AllByRecursion, list_any}
 use Rattle.br_model.specs.Text.{is_empty}
 use Rattle.br_model.specs.Volume.{Volume, Extends}
 use Rattle.br_model.specs.Bootstrap.{Group}
 use Rattle.br_model.specs.Meaning.{Piece, Hits, IsPiece, bound_of, hits_of, just_groups, last_address, pieces_of}
-use Rattle.br_model.specs.Job.{Job, no_pair}
-use Rattle.br_model.specs.Stored.{Holds}
+use Rattle.br_model.specs.Job.{no_pair}
 use Rattle.br_model.specs.Plan as model
 use Rattle.br_model.proofs.ListLaws.{all_at, at_least, none_in, none_pass}
 use Rattle.br_model.proofs.PieceLaws.{pieces_are_whole_lem}
@@ -21,7 +20,6 @@ use Rattle.br_core.specs.Laws.{selected_by}
 use Rattle.br_core.specs.Reached.{IsReached, nothing, AreWhole}
 use Rattle.br_core.specs.Reading.{CanBeRead}
 use Rattle.br_core.proofs.AlikeLaws.{IsBounded, step_alike}
-use Rattle.br_core.proofs.CommitLaws.{jobs_hold_lem}
 use Rattle.br_core.proofs.GoingLaws.{AreGrown, IsGoing, seen_extend}
 use Rattle.br_core.proofs.HeldLaws.{IsHeld}
 use Rattle.br_core.proofs.PlanPieceLaws.{IsPieceOf, IsReadable, plan_hits}
@@ -53,14 +51,6 @@ reached_more w after event reply reached step whole = record {
 pub nothing_is_start : IsStart nothing
 unfolding no_pair
 nothing_is_start = record { history = refl; are_jobs = tt; none = refl }
-
--- its volumes hold all of its jobs
-pub reached_holds : (w : World) (j : Job) → IsReached w → Contains w.jobs j → Holds w.volumes j
-reached_holds w j reached among =
-    elim ((jobs_hold_lem nothing w reached.events reached.replies reached.run).1 j among) [
-      | inl was ↦ absurd (none_in j was)
-      | inr holds ↦ holds
-    ]
 
 -- a restore that is not over is under way, and its pieces can be read
 pub record IsUnderWay (w : World) (r : Restore) : Type 0 where

@@ -10,13 +10,10 @@ use Rattle.br_model.specs.Console.{Console, after_answer, apply, at_start, marks
 use Rattle.br_model.specs.Plan.{Plan, plan_of}
 use Rattle.br_model.proofs.AnswerLaws.{bind_ok, err_is, err_is_not_ok, ok_is}
 use Rattle.br_tree.specs.Marking.{Marking, console_at, unmarked}
-use Rattle.br_mark.specs.Applied.{Runs}
 use Rattle.br_mark.specs.Said.{said}
 use Rattle.br_mark.specs.Seen.{Situation}
 use Rattle.br_mark.specs.declared.command.Command.{Command}
-use Rattle.br_mark.specs.declared.answer.Answer.{Answer}
-use Rattle.br_mark.specs.declared.fault.MarkFault.{MarkFault}
-use Rattle.br_mark.specs.declared.fault.MarkFault.TheVariants.{Memory, UnknownCommand, NoSuchDirectory, NoMatch}
+use Rattle.br_mark.specs.declared.fault.MarkFault.TheVariants.{Memory}
 use Rattle.br_choose.specs.Fault as choice
 use Rattle.br_choose.specs.declared.fault.ChooseFault.{ChooseFault}
 use Rattle.br_choose.specs.declared.fault.ChooseFault.TheVariants as choosing
@@ -58,20 +55,6 @@ is_over history q s e =
     record { jobs = p.0; chosen = p.1; is = sym (ok_is (record { view = view_of p.0; state = at_start }) s p.2) }
 
 -- ---- commands
-
--- a command that is not refused
-pub runs_on : (before after : Situation) (command : model.Command) (answer : Answer) → Runs before after command (Ok answer) → after.view ≡ before.view
-    → after ≡ after_command before command
-runs_on before after command answer runs same =
-    ap (λ (view : List Entry). record after { view = view }) same ∙ rw runs refl
-
--- a command that is refused, but not since memory ran out
-pub stays_so : (before after : Situation) (command : model.Command) (why : MarkFault) → (why ≡ Memory → ⊥) → Runs before after command (Err why) → after ≡ before
-    → after ≡ after_command before command
-stays_so before after command Memory some runs same = absurd (some refl)
-stays_so before after command UnknownCommand some runs same = rw runs same
-stays_so before after command NoSuchDirectory some runs same = rw runs same
-stays_so before after command NoMatch some runs same = rw runs same
 
 -- the console after some commands and one more
 marks_more : (view : List Entry) (c : Console) (script : List model.Command) (command : model.Command)

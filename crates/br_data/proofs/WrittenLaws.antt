@@ -1,8 +1,8 @@
 -- What several writes append, one after the other.
-use Rattle.std.proofs.Common.{◌≡◌, ℕ, ◌+◌, ◌-◌, ◌≤◌, List, [], ◌++◌, length, take, drop, min, refl, sym, ap, subst, ◌∙◌, arith, append_assoc, Option, Some, None, Result, Ok, Err, IfOk, OnErr}
+use Rattle.std.proofs.Common.{◌≡◌, ℕ, ◌+◌, ◌-◌, ◌≤◌, List, [], ◌++◌, length, take, drop, min, refl, sym, ap, subst, ◌∙◌, arith, append_assoc, Option, Result, Ok, Err, IfOk, OnErr}
 use Rattle.std.proofs.Math.Seq.{take-add}
 use Rattle.std.proofs.lemmas.List.{append-nil, take-append-drop, take_all, take-take, take-replicate, replicate-append-replicate, length-replicate}
-use Rattle.std.specs.Io.KnownBytes.{Appends, Keeps, WriteAppends}
+use Rattle.std.specs.Io.KnownBytes.{Appends, WriteAppends}
 use Rattle.std.proofs.KnownBytes.{Appends-nil, Appends-trans}
 use Rattle.br_data.specs.BodyWritten.{AppendsFront}
 use Rattle.br_data.proofs.BodyPartLaws.{zeros}
@@ -19,12 +19,6 @@ pub of_front : {E : Type 0} (result : Result ℕ E) (a b : Option (List ℕ)) (b
     → WriteAppends a b result (take len bytes) → WriteAppends a b result bytes
 of_front (Ok n) a b bytes len fits written = rw (take-take n len bytes fits) at written
 of_front (Err e) a b bytes len fits written = written
-
--- what is kept has nothing more
-pub kept_is_none : (a b : Option (List ℕ)) → Keeps a b → Appends a b []
-kept_is_none None b kept = tt
-kept_is_none (Some x) None kept = absurd kept
-kept_is_none (Some x) (Some y) kept = kept ∙ sym (append-nil x)
 
 -- ---- writes one after the other
 

@@ -10,7 +10,7 @@ use Rattle.br_model.specs.Manifest.{Totals, totals_of}
 use Rattle.br_model.specs.Delivery.{Stop, delivery, item_of, put_behind}
 use Rattle.br_bsr.specs.Fault as bootstrap
 use Rattle.br_bsr.specs.declared.fault.BsrFault.{BsrFault}
-use Rattle.br_engine.specs.Fault.{cause, EndlessAfterAll, IsNoDriveLeft, IsFree, IsNoLine, IsUnread}
+use Rattle.br_engine.specs.Fault.{cause, IsNoDriveLeft, IsFree, IsNoLine}
 use Rattle.br_engine.specs.BootstrapText.{ReadsAs}
 use Rattle.br_engine.specs.Restoring.{NoneStand, Told}
 use Rattle.br_engine.specs.Outputs.{InSink, are_files, end_of_files}
@@ -66,15 +66,6 @@ free_is_no_line Changed free = tt
 free_is_no_line (Io fault) free = tt
 free_is_no_line (NoEnd turns) free = absurd free
 
--- then no input had no end
-pub no_line_has_end : (fault : ExtractFault) → IsNoLine fault → EndlessAfterAll fault
-no_line_has_end Memory none = tt
-no_line_has_end (Bootstrap fault) none = absurd none
-no_line_has_end (Piece fault) none = tt
-no_line_has_end Changed none = tt
-no_line_has_end (Io fault) none = tt
-no_line_has_end (NoEnd turns) none = absurd none
-
 pub free_is_no_drive : (fault : ExtractFault) → IsFree fault → IsNoDriveLeft fault → ⊥
 free_is_no_drive Memory free e = absurd cc
 free_is_no_drive (Bootstrap fault) free e = free
@@ -126,13 +117,3 @@ read_refused known earlier later before had text fault alike refused =
 free : (known : Option (List ℕ)) (earlier later : Told) → OverText known earlier later (λ expected. IsRefusal None expected)
 free None earlier later = tt
 free (Some bytes) earlier later = λ volumes stands. tt
-
--- the text was not read
-pub reader_free : (known : Option (List ℕ)) (earlier later : Told) (before : Option (List ℕ)) (had : InSink) (fault : ExtractFault)
-    → IsUnread fault → Delivers (λ holds. OverText known earlier later holds) before before had had (Err fault)
-reader_free known earlier later before had Memory is = (free known earlier later, Keeps-refl before, refl)
-reader_free known earlier later before had (Io fault) is = (free known earlier later, tt, refl)
-reader_free known earlier later before had (Bootstrap fault) is = absurd is
-reader_free known earlier later before had (Piece fault) is = absurd is
-reader_free known earlier later before had Changed is = absurd is
-reader_free known earlier later before had (NoEnd turns) is = (free known earlier later, Keeps-refl before, refl)

@@ -3,8 +3,7 @@ use Rattle.std.proofs.Common.{◌≡◌, ◌≤◌, ◌<◌, ◌+◌, ◌-◌, �
 use Rattle.std.specs.Prelude.{IfErr}
 use Rattle.std.specs.List.{AllZip}
 use Rattle.std.proofs.lemmas.List.{append_assoc, take-append-drop, take-append-le, length-take-le}
-use Rattle.br_model.specs.Answer.{IsRefusal}
-use Rattle.br_model.specs.Delivery.{Stop, delivery}
+use Rattle.br_model.specs.Delivery.{Stop}
 use Rattle.br_model.specs.File as file
 use Rattle.br_model.specs.File.{Item}
 use Rattle.br_model.specs.Name.{FileKey}
@@ -20,7 +19,7 @@ use Rattle.br_reread_files.specs.FileParts.{GivesItem}
 use Rattle.br_reread_files.specs.Gathered.{Gathered}
 use Rattle.br_reread_files.specs.TwoFiles.{GivesBoth, GivesKeyed, PutsBoth}
 use Rattle.br_reread_files.specs.declared.two_files.KeyedItem.{KeyedItem}
-use Rattle.br_sink.specs.Delivery.{AreApart, IsStopBelow, IsStopIn, StandApart, items_in, items_put, stop_cause}
+use Rattle.br_sink.specs.Delivery.{AreApart, IsStopBelow, IsStopIn, StandApart, items_in, items_put}
 use Rattle.std.proofs.lemmas.Result.{IfErr-weaker}
 use Rattle.br_sink.specs.FileParts.{AreAlike, parts_number, with_bytes}
 use Rattle.br_sink.specs.Sink.{HasMore}
@@ -80,16 +79,6 @@ below_only count stop n not_1 not_80 is at = elim is.number [ inl one ↦ not_1 
 -- a stop by another number
 pub not_changed : (given : Type 0) (number done : ℕ) → (number ≡ 72 → ⊥) → IsChangedOnly given (record { number = number; done = done })
 not_changed given number done other = λ is. absurd (other is)
-
--- and it says nothing of the model
-pub no_cause_again : (stop : Stop) (rs : List Restored) (count : ℕ) → IsStopAgain count stop → IsRefusal (stop_cause stop) (delivery rs)
-no_cause_again stop rs count is = elim is.number [
-  | inl one ↦ rw one tt
-  | inr other ↦ elim other [
-    | inl eighty ↦ rw eighty tt
-    | inr again ↦ elim again [ inl seventy ↦ rw seventy tt | inr changed ↦ rw changed tt ]
-  ]
-]
 
 -- ---- what was put
 

@@ -1,8 +1,8 @@
 -- Files that are like others.
-use Rattle.std.proofs.Common.{◌≡◌, ℕ, ◌+◌, List, [], ◌++◌, length, take, drop, Option, Some, None, ap, sym, subst, ◌∙◌, refl, take_all, take-add, arith}
+use Rattle.std.proofs.Common.{◌≡◌, ℕ, ◌+◌, List, ◌++◌, length, take, drop, Option, Some, None, ap, sym, subst, ◌∙◌, refl, take_all, take-add, arith}
 use Rattle.md5.specs.Md5.{md5}
 use Rattle.br_fs.specs.Tree.{Tree, file_bytes}
-use Rattle.br_fs.specs.Calls.{HasFile, IsFile, IsFound}
+use Rattle.br_fs.specs.Calls.{HasFile, IsFound}
 use Rattle.br_fs.specs.Read.{IsWhole}
 use Rattle.br_fs.specs.Making.{Node, Nodes, Bytes, Else, Opened, node_at}
 use Rattle.br_fs.specs.MemMaker.{bytes_in}
@@ -13,11 +13,6 @@ use Rattle.br_fs.specs.Alike.{HasAlike, HasFront, IsAlike, IsAlikeAt, LacksAlike
 -- one file has one text
 one_text : (tree : Tree) (path a b : List ℕ) → file_bytes tree path ≡ Some a → file_bytes tree path ≡ Some b → b ≡ a
 one_text tree path a b is other = let same : Some b ≡ Some a = sym other ∙ is in cc
-
--- nothing of a file was read
-pub front_none : (told : Option Tree) (path : List ℕ) (P : List ℕ → Type 0) → IsFile told path → P [] → HasFront told path 0 P
-front_none None path P file none = tt
-front_none (Some tree) path P (bytes, is, any) none = (bytes, is, none)
 
 -- more of it is read
 front_on : (told : Option Tree) (path buffer : List ℕ) (at wanted : ℕ) (P Q : List ℕ → Type 0) → IsWhole told path at wanted buffer

@@ -1,72 +1,18 @@
 -- What reads one after another give.
-use Rattle.std.proofs.Common.{◌≡◌, ℕ, ◌+◌, ◌-◌, ◌≤◌, ◌<◌, inl, inr, Option, Some, None, List, Result, ◌++◌, length, take, drop, Ok, Err, refl, ap, sym, ◌∙◌, append_assoc, arith}
+use Rattle.std.proofs.Common.{◌≡◌, ℕ, ◌+◌, ◌-◌, ◌≤◌, ◌<◌, inl, inr, Option, Some, None, List, ◌++◌, length, take, drop, refl, ap, sym, ◌∙◌, append_assoc, arith}
 use Rattle.std.specs.Prelude.{⊤}
 use Rattle.std.proofs.Math.Seq.{take-add, take-append-add}
 use Rattle.std.proofs.lemmas.List.{length-take-le, drop-drop, take_all, take_at, take-append-drop}
 use Rattle.std.proofs.Common.{length-append, length-drop}
 use Rattle.br_fs.specs.Tree.{Tree}
-use Rattle.br_fs.specs.Calls.{IsReadAt, StaysSteady, IsSteady}
-use Rattle.br_fs.specs.Read.{MayFail, FailsOnly, IsFront, IsEnd, IsWhole}
-use Rattle.br_fs.specs.declared.fault.DiskFault.{DiskFault}
-use Rattle.br_fs.specs.declared.fault.DiskFault.TheVariants.{NotFound, Exists, Interrupted, Memory, Failed}
+use Rattle.br_fs.specs.Calls.{IsReadAt}
+use Rattle.br_fs.specs.Read.{IsFront, IsEnd}
 
 -- after k interrupts
 abbrev pub IsQuieter : ℕ → Option ℕ → Option ℕ → Type 0
 IsQuieter k None later = ⊤
 IsQuieter k (Some n) None = ⊥
 IsQuieter k (Some n) (Some m) = m + k ≤ n
-
-pub quiet_same : (s : Option ℕ) → IsQuieter 0 s s
-quiet_same None = tt
-quiet_same (Some n) = omega arith
-
-pub quiet_stays : (k : ℕ) (first second : Option ℕ) → IsQuieter k first second → StaysSteady first second
-quiet_stays k None second one = tt
-quiet_stays k (Some a) (Some b) one = omega arith
-quiet_stays k (Some a) None one = absurd one
-
-pub quiet_done : {A : Type 0} (k : ℕ) (first second third : Option ℕ) (answer : Result A DiskFault)
-    → IsQuieter k first second → IsSteady second third answer → StaysSteady first third
-quiet_done k None second third answer one two = tt
-quiet_done k (Some a) None third answer one two = absurd one
-quiet_done k (Some a) (Some b) None answer one two = absurd two
-quiet_done k (Some a) (Some b) (Some c) (Ok x) one two = omega arith
-quiet_done k (Some a) (Some b) (Some c) (Err NotFound) one two = omega arith
-quiet_done k (Some a) (Some b) (Some c) (Err Exists) one two = omega arith
-quiet_done k (Some a) (Some b) (Some c) (Err Interrupted) one two = omega arith
-quiet_done k (Some a) (Some b) (Some c) (Err Memory) one two = omega arith
-quiet_done k (Some a) (Some b) (Some c) (Err Failed) one two = absurd two
-
-pub steady_on : (first second third : Option ℕ) → StaysSteady first second → StaysSteady second third → StaysSteady first third
-steady_on None second third one two = tt
-steady_on (Some a) (Some b) (Some c) one two = omega arith
-steady_on (Some a) None third one two = absurd one
-steady_on (Some a) (Some b) None one two = absurd two
-
-pub quiet_more : (k : ℕ) (first second third : Option ℕ) → IsQuieter k first second
-    → IsSteady {A = ℕ} second third (Err Interrupted) → IsQuieter (k + 1) first third
-quiet_more k None second third one two = tt
-quiet_more k (Some a) (Some b) (Some c) one two = omega arith
-quiet_more k (Some a) None third one two = absurd one
-quiet_more k (Some a) (Some b) None one two = absurd two
-
--- a disk that does not fail by itself has not failed
-pub never_failed : {A : Type 0} (k : ℕ) (first second third : Option ℕ) (answer : Result A DiskFault) → IsQuieter k first second
-    → IsSteady second third answer → (answer ≡ Err Interrupted → ⊥) → FailsOnly first answer
-never_failed k first second third (Ok x) one two not = tt
-never_failed k first second third (Err NotFound) one two not = tt
-never_failed k first second third (Err Exists) one two not = tt
-never_failed k first second third (Err Memory) one two not = tt
-never_failed k first second third (Err Interrupted) one two not = absurd (not refl)
-never_failed k None second third (Err Failed) one two not = tt
-never_failed k (Some a) None third (Err Failed) one two not = absurd one
-never_failed k (Some a) (Some b) None (Err Failed) one two not = absurd two
-never_failed k (Some a) (Some b) (Some c) (Err Failed) one two not = absurd two
-
-pub tried_out : (k : ℕ) (first second : Option ℕ) → IsQuieter k first second → 1000 ≤ k → MayFail first
-tried_out k None second one many = tt
-tried_out k (Some a) (Some b) one many = omega arith
-tried_out k (Some a) None one many = absurd one
 
 -- a part after a front
 more_of : (bytes : List ℕ) (a : ℕ) (front buffer : List ℕ) (n : ℕ) → n ≤ length buffer → front ≡ take (length front) (drop a bytes)
@@ -97,24 +43,6 @@ all_of bytes a wanted front fits ends is =
     let dropped = length-drop a bytes in
     let short : length (drop a bytes) ≤ length front = omega arith in
     is ∙ take_all (length front) (drop a bytes) short ∙ sym (take_all wanted (drop a bytes) (omega arith))
-
--- a front after which the file ends is all that is left
-pub whole_at_end : (told : Option Tree) (path : List ℕ) (a wanted : ℕ) (front : List ℕ) → length front ≤ wanted
-    → IsFront told path a front → IsEnd told path a front → IsWhole told path a wanted front
-whole_at_end None path a wanted front fits was ends = tt
-whole_at_end (Some vs) path a wanted front fits (inl none) ends =
-    (ends.0, ends.1, (all_of ends.0 a wanted front fits ends.2.0 (rw none refl), ends.2.1))
-whole_at_end (Some vs) path a wanted front fits (inr has) ends =
-    let one = some_same has.0 ends.0 (sym has.1 ∙ ends.1) in
-    (ends.0, ends.1, (all_of ends.0 a wanted front fits ends.2.0 (has.2.0 ∙ ap (λ (l : List ℕ). take (length front) (drop a l)) one), ends.2.1))
-
--- a front of as many bytes is whole
-pub whole_at_count : (told : Option Tree) (path : List ℕ) (a wanted : ℕ) (front : List ℕ) → 0 < wanted → length front ≡ wanted
-    → IsFront told path a front → IsWhole told path a wanted front
-whole_at_count told path a wanted front some full (inl none) = absurd (omega (arith, ap (λ (l : List ℕ). length l) none))
-whole_at_count None path a wanted front some full (inr has) = tt
-whole_at_count (Some vs) path a wanted front some full (inr has) =
-    (has.0, has.1, (has.2.0 ∙ ap (λ (k : ℕ). take k (drop a has.0)) full, has.2.1))
 
 -- a read of no bytes, if the buffer has room for some, is at the file's end
 pub end_of : (told : Option Tree) (path : List ℕ) (a : ℕ) (front buffer : List ℕ) (n : ℕ) → n ≡ 0 → 0 < length buffer

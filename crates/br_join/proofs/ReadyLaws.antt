@@ -7,15 +7,14 @@ use Rattle.std.specs.Ordering.{nat_cmp, eq_by_cmp, is_eq}
 use Rattle.std.specs.declared.cmp.Ordering.{Ordering}
 use Rattle.std.specs.declared.cmp.Ordering.TheVariants.{Less, Equal, Greater}
 use Rattle.std.specs.Cmp.{nat_cmp_total, tied_itself, unsigned_tied}
-use Rattle.std.specs.FinMap.{FinMap, find, put, get, insert, entries, from_entries, entries-insert, get-entries, get-insert, get-from_entries, same_map, nat_cmp-IsAntisymmetric}
-use Rattle.std.specs.FinMap.Entries.{by_order, is_some-find}
+use Rattle.std.specs.FinMap.{FinMap, find, put, get, insert, entries, from_entries, entries-insert, get-insert, get-from_entries, same_map, nat_cmp-IsAntisymmetric}
+use Rattle.std.specs.FinMap.Entries.{by_order}
 use Rattle.br_model.specs.Order.{put_all}
 use Rattle.br_model.specs.Meaning.{Piece}
 use Rattle.br_model.specs.Restored.{Names}
 use Rattle.br_model.proofs.ListLaws.{first_in, later_in, some_passes}
 use Rattle.br_model.proofs.OrderLaws.{put_all-entries}
-use mathlib.Core.List.{map-map}
-use Rattle.br_join.specs.Joining.{Joining, IsMadeFor, begun, closed_each, emptied, is_ready, with_closed}
+use Rattle.br_join.specs.Joining.{Joining, IsMadeFor, begun, closed_each, is_ready, with_closed}
 
 -- pieces by number, and which of them are closed
 abbrev pub Pieces : Type 0
@@ -29,10 +28,6 @@ all_pieces b ps = from_entries (map (λ (p : Piece). (p.number, b)) ps)
 abbrev pub closed : Pieces → List Piece → Pieces
 closed all [] = all
 closed all (p ∷ ps) = closed (insert all p.number true) ps
-
-pub closed_more : (all : Pieces) (ps : List Piece) (p : Piece) → closed all (ps ++ p ∷ []) ≡ insert (closed all ps) p.number true
-closed_more all [] p = refl
-closed_more all (q ∷ ps) p = closed_more (insert all q.number true) ps p
 
 -- whether a number is one of the pieces'
 abbrev is_number : ℕ → List Piece → Bool
@@ -89,21 +84,6 @@ all_true (p ∷ ps) =
     ap (list_all (λ (e : ℕ × Bool). e.1)) (entries-insert nat_cmp_total (all_pieces true ps) p.number true)
     ∙ put_true p.number (entries (all_pieces true ps)) (all_true ps)
 
--- when all were closed, each is
-pub closed_are_ready : (ps : List Piece) → list_all (λ (e : ℕ × Bool). e.1) (entries (closed (all_pieces false ps) ps)) ≡ true
-closed_are_ready ps = ap (λ m. list_all (λ (e : ℕ × Bool). e.1) (entries m)) (all_closed ps) ∙ all_true ps
-
--- a piece is known, whichever were closed
-pub piece_is_known : (ps qs : List Piece) (p : Piece) → Contains ps p → get (closed (all_pieces false ps) qs) p.number ≡ None → ⊥
-piece_is_known ps qs p among none =
-    let number : is_number p.number ps ≡ true = some_passes (λ (q : Piece). eq_by_cmp nat_cmp p.number q.number) ps p among (ap is_eq (tied_itself nat_cmp_total p.number)) in
-    clash (is_number p.number qs) (sym none ∙ get_closed (all_pieces false ps) qs p.number
-    ∙ ap (cond (is_number p.number qs) (Some true)) (get_all false ps p.number ∙ ap (λ b. cond b (Some false) None) number))
-  where
-    clash : (b : Bool) → None ≡ cond b (Some true) (Some false) → ⊥
-    clash true h = cc
-    clash false h = cc
-
 -- ---- a joiner that is made for some pieces
 
 -- a number is one of the pieces', by the one test and by the other
@@ -146,19 +126,6 @@ pub all_closed_is_made : (pieces : List Piece) (known : Pieces) (ps : List Piece
 all_closed_is_made pieces known [] made among = made
 all_closed_is_made pieces known (p ∷ ps) made among =
     all_closed_is_made pieces (insert known p.number true) ps (closed_is_made pieces known p made (among p (first_in p ps p refl))) (λ q inside. among q (later_in p ps q inside))
-
--- and after it is emptied
-pub emptied_is_made : (pieces : List Piece) (j : Joining) → IsMadeFor pieces j.pieces → IsMadeFor pieces (emptied j).pieces
-emptied_is_made pieces j made n =
-    ap is_some (get-from_entries nat_cmp_total (map opened (entries j.pieces)) n)
-    ∙ is_some-find nat_cmp n (map opened (entries j.pieces))
-    ∙ ap (list_any (eq_by_cmp nat_cmp n)) (map-map (λ (e : ℕ × Bool). e.0) opened (entries j.pieces))
-    ∙ sym (is_some-find nat_cmp n (entries j.pieces))
-    ∙ ap is_some (sym (get-entries j.pieces n))
-    ∙ made n
-  where
-    opened : ℕ × Bool → ℕ × Bool
-    opened e = (e.0, false)
 
 -- when each of its pieces was closed, it is ready
 pub made_is_ready : (pieces : List Piece) (known : Pieces) → IsMadeFor pieces known → list_all (λ (e : ℕ × Bool). e.1) (entries (closed known pieces)) ≡ true

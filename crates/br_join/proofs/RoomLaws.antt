@@ -15,20 +15,6 @@ fits r left bytes less = ap (λ (b : Bool). if b then overfull r else with_left 
 runs_over : (r : Room) (left bytes : ℕ) → left < bytes → filled_by (Some left) r bytes ≡ overfull r
 runs_over r left bytes more = ap (λ (b : Bool). if b then overfull r else with_left r (left - bytes)) (lt-ltb left bytes more)
 
--- what is left, if the room has a bound and data fit
-pub fits_to : (r : Room) (left bytes rest : ℕ) → r.left ≡ Some left → rest + bytes ≡ left → with_left r rest ≡ filled r bytes
-fits_to r left bytes rest at sum =
-    let same : rest ≡ left - bytes = omega (arith, sum) in
-    ap (with_left r) same ∙ sym (fits r left bytes (omega (arith, sum))) ∙ ap (λ (o : Option ℕ). filled_by o r bytes) (sym at)
-
--- if they do not fit
-pub runs_over_to : (r : Room) (left bytes : ℕ) → r.left ≡ Some left → left < bytes → overfull r ≡ filled r bytes
-runs_over_to r left bytes at more = sym (runs_over r left bytes more) ∙ ap (λ (o : Option ℕ). filled_by o r bytes) (sym at)
-
--- if the room has no bound
-pub endless_to : (r : Room) (bytes : ℕ) → r.left ≡ None → r ≡ filled r bytes
-endless_to r bytes at = ap (λ (o : Option ℕ). filled_by o r bytes) (sym at)
-
 -- ---- data that come one part after the other
 
 abbrev made : Option ℕ → Option ℕ → Bool → Room

@@ -1,6 +1,5 @@
 -- The steps of the list keep its rule.
 use Rattle.std.proofs.Common.{◌≡◌, ℕ, zero, suc, ◌+◌, ◌<◌, ◌≤◌, ◌==◌, Bool, true, false, List, [], ◌∷◌, ◌++◌, length, set, refl, ap, sym, subst, ◌∙◌, arith, inl, inr, length-append, length-set, None}
-use Rattle.std.specs.Prelude.{MatchBool, ⊤}
 use Rattle.std.proofs.lemmas.List.{append-nil}
 use Rattle.std.proofs.lemmas.Bool.{both_ways, cases_lt, eq-eqb, eqb-true}
 use mathlib.Core.List.{IsPrefix}
@@ -108,10 +107,6 @@ cell_moves v e old cs log kept pre away =
     let P : List Cell → Type 0 = λ c. (1 < length c) × ((cell c 1).1 ≡ true) × Goes IsKept shown moved 1 (v, (no_nib, None)) (λ n. either (n == old) (old + 1) n) (AddsCell (step 1 old (old + 1) e) (v, (no_nib, None))) c log in
     subst P (sym kept.words) (omega arith, refl, cell_goes v log kept.tail e old kept.home (length kept.tail == old) refl)
 
--- the pen of a cell that was added
-pub cell_made : (found count : ℕ) (p : Nib) → found ≡ count → MatchBool (found == count) (p ≡ nib may_make (count + 2) 0) ⊤ → p ≡ nib may_make (count + 2) 0
-cell_made found count p same h = rw (eq-eqb found count same) at h
-
 -- ---- a job more
 
 adds_goes : (v log : List JobRows) (tail : List Cell) (e : JobRows) (old : ℕ) (p : Nib) → length v ≡ old → p.right ≡ may_write → p.key ≡ old + 2
@@ -181,7 +176,3 @@ whole_moves v e n p right key cs log kept pre away =
     let P : List Cell → Type 0 = λ c. (0 < length c) × ((cell c 0).1 ≡ true) × Goes IsKept shown moved 0 (v, (p, None)) (λ m. either (m == n) n m) (IsWhole (step 0 n n e) (v, (p, None))) c log in
     let there = subst (λ (c : List Cell). Away p c) kept.words away in
     subst P (sym kept.words) (omega arith, refl, whole_goes v log kept.tail e n p right key kept.home there)
-
--- a list without jobs
-pub opens_kept : IsKept ((0, true) ∷ (0, true) ∷ []) []
-opens_kept = record { tail = []; words = refl; home = λ k lt. absurd (omega (arith, lt)) }

@@ -1,14 +1,9 @@
 -- Beginnings of one list.
-use Rattle.std.proofs.Common.{◌≡◌, ℕ, zero, suc, ◌+◌, ◌≤◌, List, [], ◌∷◌, ◌++◌, length, Some, None, slice_get, refl, ap, sym, ◌∙◌, arith, append_assoc, length-append}
+use Rattle.std.proofs.Common.{◌≡◌, ℕ, ◌+◌, ◌≤◌, List, [], ◌∷◌, ◌++◌, length, Some, None, refl, ap, sym, ◌∙◌, arith, append_assoc, length-append}
 use mathlib.Core.List.{IsPrefix}
 use Rattle.br_model.specs.Job.{JobRows}
 use Rattle.br_keeper.specs.Beginnings.{last_id}
 use Rattle.br_keeper.specs.Sessions.{ReceiptsAreShown}
-
--- each list begins with itself
-pub prefix_self : {A : Type 0} (xs : List A) → IsPrefix xs xs
-prefix_self [] = ([], refl)
-prefix_self (x ∷ xs) = (let r = prefix_self xs in r.0, ap (λ ys. x ∷ ys) (prefix_self xs).1)
 
 pub prefix_trans : {A : Type 0} (xs ys zs : List A) → IsPrefix xs ys → IsPrefix ys zs → IsPrefix xs zs
 prefix_trans xs ys zs p q = (p.0 ++ q.0, sym (append_assoc xs p.0 q.0) ∙ (ap (λ w. w ++ q.0) p.1 ∙ q.1))
@@ -37,13 +32,6 @@ prefix_length xs ys p = omega (arith, sym (ap length p.1) ∙ length-append xs p
 pub receipts_are_shown_lem : ReceiptsAreShown
 receipts_are_shown_lem receipt learned shown told more =
     prefix_length receipt.log shown.list (prefix_trans receipt.log learned.list shown.list told more.1)
-
--- what is in a beginning is in the whole, at the same place
-pub prefix_get : {A : Type 0} (xs ys : List A) (k : ℕ) (x : A) → IsPrefix xs ys → slice_get xs k ≡ Some x → slice_get ys k ≡ Some x
-prefix_get [] ys k x p h = absurd cc
-prefix_get (y ∷ xs) [] k x p h = absurd (cc (p.1))
-prefix_get (y ∷ xs) (z ∷ ys) zero x p h = cc (p.1, h)
-prefix_get (y ∷ xs) (z ∷ ys) (suc k) x p h = prefix_get xs ys k x (p.0, cc (p.1)) h
 
 -- the last job of a list that one was added to
 pub last_of_added : (jobs : List JobRows) (job : JobRows) → last_id (jobs ++ job ∷ []) ≡ Some job.row.id

@@ -1,5 +1,5 @@
 -- Additions that lead from one beginning of the list to another.
-use Rattle.std.proofs.Common.{◌≡◌, ℕ, false, ◌+◌, List, [], ◌∷◌, ◌++◌, length, fold, sym, refl, ap, ◌∙◌, subst, append_assoc, length-append, arith, Option, Some, None, MatchOption}
+use Rattle.std.proofs.Common.{◌≡◌, ℕ, false, ◌+◌, List, [], ◌∷◌, ◌++◌, fold, sym, refl, ap, ◌∙◌, subst, append_assoc, Option, Some, None, MatchOption}
 use Rattle.std.proofs.lemmas.List.{append-nil}
 use Rattle.logbook.specs.Pages.{Book}
 use Rattle.br_model.specs.Job.{JobRows}
@@ -12,19 +12,6 @@ use Rattle.br_keeper.specs.Keeps.{knowing, book_in, Keeps}
 use Rattle.br_keeper.proofs.ShowingLaws.{publishes}
 use Rattle.std.specs.Option.{is_some}
 use Rattle.br_keeper.specs.Writers.{IsWriter, listed, Leads}
-
-pub leads_book : (f : Beginning) (more : List Added) (g : Beginning) → Leads f more g → g.book ≡ f.book
-leads_book f [] g h = ap (λ (b : Beginning). b.book) (sym h)
-leads_book f (a ∷ more) g h = leads_book a.front more g h.1 ∙ ap (λ (b : Beginning). b.book) h.0
-
-leads_length : (f : Beginning) (more : List Added) (g : Beginning) → Leads f more g → length g.log ≡ length f.log + length more
-leads_length f [] g h = let e : length f.log ≡ length g.log = ap (λ (b : Beginning). length b.log) h in omega (arith, e)
-leads_length f (a ∷ more) g h = let e = leads_length a.front more g h.1 in let d : length a.front.log ≡ length (f.log ++ a.rows ∷ []) = ap (λ (b : Beginning). length b.log) h.0 in omega (arith, e, d, length-append f.log (a.rows ∷ []))
-
--- additions that lead to a list no longer are none
-pub leads_same : (f : Beginning) (more : List Added) (g : Beginning) → Leads f more g → length g.log ≡ length f.log → f ≡ g
-leads_same f [] g h e = h
-leads_same f (a ∷ more) g h e = let l = leads_length f (a ∷ more) g h in absurd (omega (arith, l, e))
 
 pub leads_snoc : (f : Beginning) (more : List Added) (g : Beginning) (a : Added) → Leads f more g → a.front ≡ beginning g.book (g.log ++ a.rows ∷ []) → Leads f (more ++ a ∷ []) a.front
 leads_snoc f [] g a h e = let P : Beginning → Type 0 = λ b. a.front ≡ beginning b.book (b.log ++ a.rows ∷ []) in (subst P (sym h) e, refl)

@@ -1,12 +1,11 @@
 -- Vouched lengths, entry by entry.
-use Rattle.std.proofs.Common.{◌≡◌, ℕ, zero, suc, ◌+◌, ◌<◌, ◌≤◌, Bool, true, false, not, cond, Some, None, List, [], ◌∷◌, ◌++◌, length, take, get_or, map, refl, ap, sym, ◌∙◌, arith}
-use Rattle.std.specs.Prelude.{◌-◌, ◌^◌, min, bytes_eq, filter, fold, is_some, slice_set, slice_index_or, position}
+use Rattle.std.proofs.Common.{◌≡◌, ℕ, zero, suc, ◌+◌, ◌<◌, ◌≤◌, Bool, Some, None, List, [], ◌∷◌, length, take, get_or, refl, ap, sym, ◌∙◌, arith}
+use Rattle.std.specs.Prelude.{◌-◌, ◌^◌, min, bytes_eq, fold, slice_set, slice_index_or, position}
 use Rattle.std.specs.List.{position_or_len}
-use Rattle.std.proofs.lemmas.List.{take_more, map-append}
+use Rattle.std.proofs.lemmas.List.{take_more}
 use Rattle.std.proofs.lemmas.List.Sums.{fold-append}
-use Rattle.std.proofs.lemmas.List.Elements.{filter-append}
 use Rattle.br_keeper.specs.declared.vouched_lengths.Vouch.{Vouch}
-use Rattle.br_keeper.specs.Vouching.{changed, entry_of, longer, new_entries, new_entry}
+use Rattle.br_keeper.specs.Vouching.{changed, longer}
 use Rattle.br_model.proofs.ListLaws.{at_front, behind, behind_all, found_at, not_found}
 
 -- ---- folds and maps of one element more
@@ -15,22 +14,6 @@ pub fold_next : {A B : Type 0} (f : B → A → B) (a : B) (xs : List A) (i : �
     → fold f a (take (i + 1) xs) ≡ f (fold f a (take i xs)) x
 fold_next f a xs i x lt is =
     ap (fold f a) (take_more xs i x lt) ∙ fold-append f a (take i xs) (get_or xs i x ∷ []) ∙ ap (f (fold f a (take i xs))) (sym is)
-
-abbrev pub one_entry : List Vouch → List ℕ × ℕ → List Vouch
-one_entry vouches s = cond (not (is_some (entry_of vouches s.0))) (new_entry s ∷ []) []
-
-new_of_one : (vouches : List Vouch) (s : List ℕ × ℕ) → new_entries vouches (s ∷ []) ≡ one_entry vouches s
-new_of_one vouches s =
-    elim (not (is_some (entry_of vouches s.0))) as (λ b. map new_entry (cond b (s ∷ []) []) ≡ cond b (new_entry s ∷ []) []) [ true ↦ refl | false ↦ refl ]
-
-pub entries_next : (vouches : List Vouch) (starts : List (List ℕ × ℕ)) (i : ℕ) (s : List ℕ × ℕ) → i < length starts → s ≡ get_or starts i s
-    → new_entries vouches (take (i + 1) starts) ≡ new_entries vouches (take i starts) ++ one_entry vouches s
-entries_next vouches starts i s lt is =
-    let is_new = λ (t : List ℕ × ℕ). not (is_some (entry_of vouches t.0)) in
-    ap (new_entries vouches) (take_more starts i s lt ∙ ap (λ (t : List ℕ × ℕ). take i starts ++ t ∷ []) (sym is))
-    ∙ ap (map new_entry) (filter-append is_new (take i starts) (s ∷ []))
-    ∙ map-append new_entry (filter is_new (take i starts)) (filter is_new (s ∷ []))
-    ∙ ap (λ (vs : List Vouch). new_entries vouches (take i starts) ++ vs) (new_of_one vouches s)
 
 -- ---- one entry is changed
 

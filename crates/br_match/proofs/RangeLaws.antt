@@ -97,16 +97,6 @@ pub record IsWidened (sorted : List Range) (i greatest : ℕ) (made : List Range
   pub last_high : (d : Range) → 0 < length made → (get_or made (length made - 1) d).high ≡ greatest
   pub last_low : (d : Range) → 0 < length made → (get_or made (length made - 1) d).low ≡ (get_or sorted (i - 1) d).low
 
-pub widened_none : (sorted made : List Range) → made ≡ [] → IsWidened sorted 0 0 made
-widened_none sorted made e = rw e (record {
-  count = refl;
-  rising = record { low = λ i j d le lt. absurd (omega arith); high = λ i j d le lt. absurd (omega arith) };
-  same = λ n. refl;
-  none = λ p. refl;
-  last_high = λ d lt. absurd (omega arith);
-  last_low = λ d lt. absurd (omega arith);
-})
-
 -- one more range, which goes on to the greatest high end
 pub widened_more : (sorted made : List Range) (i greatest : ℕ) (r : Range) → IsNonDecreasingBy (λ (x : Range). x.low) sorted → i < length sorted → r ≡ get_or sorted i r
     → IsWidened sorted i greatest made → IsWidened sorted (i + 1) (max r.high greatest) (made ++ record { low = r.low; high = max r.high greatest } ∷ [])

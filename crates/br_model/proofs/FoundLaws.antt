@@ -11,7 +11,7 @@ use Rattle.br_model.specs.Stored.{is_in_span, IsSpanLaid}
 use Rattle.br_model.specs.View.{Entry}
 use Rattle.br_model.specs.Plan.{plan_groups}
 use Rattle.br_model.proofs.PlanVolumeLaws.{IsGroupOf, plan_spans, plan_groups_are, IsJobLaid, blocks_found, hits_found, span_is_found}
-use Rattle.br_model.proofs.ListLaws.{contains_filter, contains_flat_map, first_in, first_or_later, from_given, from_joined, from_kept, given_in, in_without_repeats, later_in, none_in, at_number, number_at}
+use Rattle.br_model.proofs.ListLaws.{contains_filter, contains_flat_map, first_in, first_or_later, from_given, from_joined, given_in, in_without_repeats, later_in, none_in, at_number, number_at}
 use Rattle.br_model.proofs.AnswerLaws.{some_mapped}
 
 -- ---- the hits in a block
@@ -75,15 +75,6 @@ is_found groups volumes h is =
 
 -- ---- the hits of a plan
 
--- a block of a span of a plan is among those that the walk of its volume finds
-pub block_is_found : (volumes later : List Volume) (selected : List Entry) (jobs : List JobRows) (s : Span) (blocks : List LaidBlock) (b : LaidBlock) → Extends later volumes
-    → AllByRecursion (IsJobLaid volumes) jobs → Contains (plan_spans selected jobs) s → IsSpanLaid volumes s blocks → Contains blocks b
-    → Contains (blocks_found (plan_groups selected jobs) later s.volume) b
-block_is_found volumes later selected jobs s blocks b extends laid among is inside =
-    let found = blocks_found (plan_groups selected jobs) later s.volume in
-    from_kept (λ (c : LaidBlock). is_in_span s c.address) found b
-    (subst (λ (bs : List LaidBlock). Contains bs b) (span_is_found volumes later selected jobs s blocks extends laid among is) inside)
-
 -- a block that the walk finds is one of a span of the plan if its address is in the span
 pub block_is_of_span : (volumes later : List Volume) (selected : List Entry) (jobs : List JobRows) (s : Span) (blocks : List LaidBlock) (b : LaidBlock) → Extends later volumes
     → AllByRecursion (IsJobLaid volumes) jobs → Contains (plan_spans selected jobs) s → IsSpanLaid volumes s blocks
@@ -107,18 +98,3 @@ pub volume_is_named : (selected : List Entry) (jobs : List JobRows) (s : Span) �
 volume_is_named selected jobs s among =
     in_without_repeats (map (λ (g : Group). g.volume) (plan_groups selected jobs)) s.volume
     (volume_of_group (plan_groups selected jobs) (plan_spans selected jobs) s (plan_groups_are selected jobs) among)
-
--- a hit in a block of a span of a plan is among what is found over all volumes that extend those
--- that hold its jobs
-pub span_hit_is_found : (volumes later : List Volume) (selected : List Entry) (jobs : List JobRows) (s : Span) (blocks : List LaidBlock) (b : LaidBlock) (h : Hit) → Extends later volumes
-    → AllByRecursion (IsJobLaid volumes) jobs → Contains (plan_spans selected jobs) s → IsSpanLaid volumes s blocks → Contains blocks b
-    → IsHitIn (groups_on (plan_groups selected jobs) s.volume) b h
-    → Contains (flat_map (hits_found (plan_groups selected jobs) later) (volumes_of (plan_groups selected jobs))) h
-span_hit_is_found volumes later selected jobs s blocks b h extends laid among is inside hit =
-    is_found (plan_groups selected jobs) later h (record {
-      volume = s.volume;
-      named = volume_is_named selected jobs s among;
-      block = b;
-      among = block_is_found volumes later selected jobs s blocks b extends laid among is inside;
-      hit = hit;
-    })

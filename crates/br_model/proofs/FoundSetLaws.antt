@@ -1,22 +1,16 @@
 -- The set of a bootstrap's hits has exactly what its walks find.
-use Rattle.std.proofs.Common.{◌≡◌, ℕ, ◌+◌, true, List, [], Some, Result, Ok, Err, refl, sym, ap, subst, ◌∙◌, arith}
+use Rattle.std.proofs.Common.{◌≡◌, ℕ, ◌+◌, List, [], Some, Result, Ok, Err, refl, sym, ap, subst, ◌∙◌, arith}
 use Rattle.std.proofs.lemmas.Option.{same_Some}
 use Rattle.std.proofs.lemmas.Slice.Eq.{bytes_eq-Decides}
 use Rattle.std.specs.Prelude.{◌↔◌, bytes_eq, Contains, flat_map, slice_get, unwrap_or}
-use Rattle.std.specs.List.{AllByRecursion}
 use Rattle.br_model.specs.Block.{Fragment, fragments_of}
-use Rattle.br_model.specs.Volume.{Volume, Extends, volume_bytes, LaidBlock, BlockFault}
+use Rattle.br_model.specs.Volume.{Volume, volume_bytes, LaidBlock, BlockFault}
 use Rattle.br_model.specs.Bootstrap.{Group, hits}
-use Rattle.br_model.specs.Meaning.{Spot, Hit, Hits, HasHit, hits_of, first_hitting, bound_of, is_covered, groups_on, just_groups, volumes_of, blocks_for, meaning}
-use Rattle.br_model.specs.Job.{Span, JobRows, Job}
-use Rattle.br_model.specs.Stored.{is_in_span, IsSpanLaid, Holds}
-use Rattle.br_model.specs.View.{Entry}
-use Rattle.br_model.specs.Plan.{plan_groups}
-use Rattle.br_model.specs.PlanMeaning.{rows_of_jobs}
+use Rattle.br_model.specs.Meaning.{Spot, Hit, HasHit, hits_of, first_hitting, bound_of, is_covered, groups_on, just_groups, volumes_of, blocks_for}
 use Rattle.br_model.proofs.VolumeLaws.{walk_is_exact_lem}
 use Rattle.br_model.proofs.SpanLaws.{IsBehind, AreAscending, laid_ascend}
-use Rattle.br_model.proofs.PlanVolumeLaws.{found_or_none, blocks_found, hits_found, plan_spans, IsJobLaid, chosen_are_laid, plan_has_meaning}
-use Rattle.br_model.proofs.FoundLaws.{IsHitIn, IsFound, found_is, is_found, block_is_found, block_is_of_span, volume_is_named}
+use Rattle.br_model.proofs.PlanVolumeLaws.{found_or_none, blocks_found, hits_found}
+use Rattle.br_model.proofs.FoundLaws.{IsFound, found_is, is_found}
 use Rattle.br_model.proofs.GroupLaws.{asks, first_hitting_is_first}
 use Rattle.br_model.proofs.PairLaws.{first_number_passes, one_if_unrelated}
 use Rattle.br_model.proofs.RisingLaws.{found_is_held, hit_was_found}
@@ -76,49 +70,3 @@ set_has_found groups volumes h =
       (λ has. found_is groups volumes h (hit_was_found found h has)),
       (λ is. found_is_held found h (λ g g_in key same. one_at_spot groups volumes g h (found_is groups volumes g g_in) is same) (is_found groups volumes h is)),
     )
-
--- ---- the set of a plan
-
--- The plan's meaning over later volumes is the set. It has exactly what is found, thus each hit in a block of one of the
--- plan's spans, and a hit of it whose address is in such a span is in a block in which the span was laid.
-pub record IsPlanSet (volumes later : List Volume) (selected : List Entry) (jobs : List JobRows) (set : Hits) : Type 0 where
-  pub means : meaning (plan_groups selected jobs) later ≡ Ok set
-  pub exactly : (h : Hit) → HasHit set h ↔ IsFound (plan_groups selected jobs) later h
-  pub has : (s : Span) (blocks : List LaidBlock) (b : LaidBlock) (h : Hit) → Contains (plan_spans selected jobs) s → IsSpanLaid volumes s blocks → Contains blocks b
-      → IsHitIn (groups_on (plan_groups selected jobs) s.volume) b h → HasHit set h
-  pub inside : (s : Span) (blocks : List LaidBlock) (h : Hit) (is : IsFound (plan_groups selected jobs) later h) → Contains (plan_spans selected jobs) s → IsSpanLaid volumes s blocks
-      → is.volume ≡ s.volume → is_in_span s h.spot.address ≡ true → Contains blocks is.block × IsHitIn (groups_on (plan_groups selected jobs) s.volume) is.block h
-
--- over all volumes that extend those on which its jobs are laid, a plan has such a set
-pub plan_has_set : (volumes later : List Volume) (selected : List Entry) (jobs : List JobRows) → Extends later volumes → AllByRecursion (IsJobLaid volumes) jobs
-    → IsPlanSet volumes later selected jobs (hits_of (flat_map (hits_found (plan_groups selected jobs) later) (volumes_of (plan_groups selected jobs))))
-plan_has_set volumes later selected jobs extends laid =
-    let gs = plan_groups selected jobs in
-    record {
-      means = plan_has_meaning volumes later selected jobs extends laid;
-      exactly = λ h. set_has_found gs later h;
-      has = λ s blocks b h among is inside hit.
-          (set_has_found gs later h).1 (record {
-            volume = s.volume;
-            named = volume_is_named selected jobs s among;
-            block = b;
-            among = block_is_found volumes later selected jobs s blocks b extends laid among is inside;
-            hit = hit;
-          });
-      inside = λ s blocks h is among span_laid volume within.
-          let there : Contains (blocks_found gs later s.volume) is.block = subst (λ (v : List ℕ). Contains (blocks_found gs later v) is.block) volume is.among in
-          let at : is_in_span s is.block.address ≡ true = ap (is_in_span s) (sym is.hit.address) ∙ within in (
-            block_is_of_span volumes later selected jobs s blocks is.block extends laid among span_laid there at,
-            subst (λ (v : List ℕ). IsHitIn (groups_on gs v) is.block h) volume is.hit,
-          );
-    }
-
--- if volumes hold the chosen ones of some jobs, their plan has such a set over all volumes that
--- extend these
-pub chosen_have_set : (volumes later : List Volume) (jobs : List Job) (chosen : List JobRows) (selected : List Entry)
-    → ((r : JobRows) → Contains chosen r → Contains (rows_of_jobs jobs) r)
-    → ((j : Job) → Contains jobs j → Contains chosen j.rows → Holds volumes j) → Extends later volumes
-    → (set : Hits) × IsPlanSet volumes later selected chosen set
-chosen_have_set volumes later jobs chosen selected among holds extends =
-    let set = hits_of (flat_map (hits_found (plan_groups selected chosen) later) (volumes_of (plan_groups selected chosen))) in
-    (set, plan_has_set volumes later selected chosen extends (chosen_are_laid volumes jobs chosen among holds))

@@ -1,8 +1,8 @@
 -- The groups of a plan: which fragments each hits, and that no two of them hit one fragment.
-use Rattle.std.proofs.Common.{◌≡◌, ℕ, ◌+◌, ◌<◌, ◌≤◌, Bool, true, false, not, ◌&&◌, ◌||◌, eqb, List, [], ◌∷◌, ◌++◌, map, filter, Option, Some, None, Decides, refl, sym, ap, subst, ◌∙◌, inl, inr, ◌⊎◌, arith}
+use Rattle.std.proofs.Common.{◌≡◌, ℕ, ◌+◌, ◌<◌, ◌≤◌, Bool, true, false, not, ◌&&◌, ◌||◌, eqb, List, [], ◌∷◌, ◌++◌, map, filter, Some, Decides, refl, sym, ap, subst, ◌∙◌, inl, inr, ◌⊎◌, arith}
 use Rattle.std.proofs.Math.Bool.{or-false}
 use Rattle.std.proofs.Math.Nat.{zero-add}
-use Rattle.std.proofs.lemmas.Bool.{and_parts, and_from, or_left, not-true, not_from_false, both_ways, eqb-true, eq-eqb, leb-true, le-leb, or_right}
+use Rattle.std.proofs.lemmas.Bool.{and_parts, and_from, or_left, not-true, both_ways, eqb-true, eq-eqb, leb-true, le-leb, or_right}
 use Rattle.std.proofs.lemmas.Slice.Eq.{bytes_eq-Decides}
 use Rattle.std.proofs.lemmas.List.{map-append}
 use Rattle.std.proofs.lemmas.Option.{slice_get-map}
@@ -19,8 +19,8 @@ use Rattle.br_model.specs.View.{Entry}
 use Rattle.br_model.specs.Plan.{ranges_of, indexes_in, span_group, job_groups, plan_groups}
 use Rattle.br_model.proofs.AnswerLaws.{some_mapped}
 use Rattle.br_model.proofs.RangeLaws.{admits_exactly}
-use Rattle.br_model.proofs.PairLaws.{EachPair, pairs_weaker, pairs_filter, pairs_map, pairs_flat_map, pairs_at, no_pair_clashes, one_of_two, pairs_numbered, numbers_rise_by_place, find_filter, first_number, first_number_passes, Apart, first_number_is}
-use Rattle.br_model.proofs.ListLaws.{all_among, all_any, all_at, all_filter, all_flat_map, all_map, all_numbered, all_pass, all_weaker, contains_filter, contains_flat_map, contains_map, contains_numbered, has_at, kept_pass, numbers_are_places, of_each, place_of, not_empty}
+use Rattle.br_model.proofs.PairLaws.{EachPair, pairs_weaker, pairs_filter, pairs_map, pairs_flat_map, no_pair_clashes, one_of_two, pairs_numbered, numbers_rise_by_place, find_filter, first_number, first_number_passes, Apart, first_number_is}
+use Rattle.br_model.proofs.ListLaws.{all_among, all_any, all_at, all_filter, all_flat_map, all_map, all_numbered, all_pass, all_weaker, kept_pass, numbers_are_places, of_each, not_empty}
 use mathlib.Core.List.{map-map}
 
 -- ---- the group of a span
@@ -129,10 +129,6 @@ pub plan_groups_are : (selected : List Entry) (jobs : List JobRows) → plan_gro
 unfolding plan_groups
 plan_groups_are selected jobs = groups_from 0 selected jobs
 
--- the group with a number is that of the span with that number
-pub plan_group_at : (selected : List Entry) (jobs : List JobRows) (n : ℕ) → slice_get (plan_groups selected jobs) n ≡ option_map (group_of selected) (slice_get (asked selected jobs) n)
-plan_group_at selected jobs n = ap (λ gs. slice_get gs n) (plan_groups_are selected jobs) ∙ slice_get-map (group_of selected) (asked selected jobs) n
-
 -- the span is one of the job at its place, and has a part of a selected file
 pub record IsPart (selected : List Entry) (jobs : List JobRows) (a : Asked) : Type 0 where
   pub place : slice_get jobs a.place ≡ Some a.job
@@ -156,16 +152,6 @@ asked_are_parts selected jobs =
         all_map (IsPart selected jobs) (asked_at j) (filter (has_part selected j.1) j.1.spans)
         (all_weaker (λ s. Contains j.1.spans s × (has_part selected j.1 s ≡ true)) (λ s. IsPart selected jobs (asked_at j s)) (λ s k. record { place = place; span = k.0; part = not-true _ k.1 }) (filter (has_part selected j.1) j.1.spans)
         (both (Contains j.1.spans) (λ s. has_part selected j.1 s ≡ true) (filter (has_part selected j.1) j.1.spans) (all_filter (Contains j.1.spans) (has_part selected j.1) j.1.spans (all_among j.1.spans)) (kept_pass (has_part selected j.1) j.1.spans)))
-
--- each span of a job that has a part of a selected file has a number
-pub part_has_number : (selected : List Entry) (jobs : List JobRows) (j : JobRows) (s : Span) → Contains jobs j → Contains j.spans s → is_empty (indexes_in selected j s) ≡ false
-    → (n : ℕ) × (a : Asked) × (slice_get (asked selected jobs) n ≡ Some a) × (a.job ≡ j) × (a.span ≡ s)
-part_has_number selected jobs j s c d e =
-    let k = contains_numbered 0 jobs j c in
-    let kept = contains_filter (has_part selected j) j.spans s d (not_from_false _ e) in
-    let made = contains_map (asked_at (k.0, j)) (filter (has_part selected j) j.spans) s kept in
-    let found = place_of (asked selected jobs) (asked_at (k.0, j) s) (contains_flat_map (asked_of_job selected) (enumerate_from 0 jobs) (k.0, j) (asked_at (k.0, j) s) k.1 made) in
-    (found.0, asked_at (k.0, j) s, found.1, refl, refl)
 
 -- ---- consistent rows
 
@@ -217,12 +203,6 @@ spans_meet s t address v p q =
     let above : t.start ≤ address = leb-true t.start address b.0 in
     and_from (bytes_eq s.volume t.volume) (nat_le t.start s.end) ((bytes_eq-Decides s.volume t.volume).1 v) (le-leb t.start s.end (omega arith))
 
--- two spans of a job with one address of one volume are one
-pub one_span_of_address : (j : JobRows) (s t : Span) (address : ℕ) → AreRows j → Contains j.spans s → Contains j.spans t → s.volume ≡ t.volume
-    → is_in_range s.start s.end address ≡ true → is_in_range t.start t.end address ≡ true → s ≡ t
-one_span_of_address j s t address h c d v p q =
-    one_of_two overlaps j.spans s t h.spans_apart c d (spans_meet s t address v p q) (spans_meet t s address (sym v) q p)
-
 -- ---- the order of the groups
 
 -- spans that are numbered from a number on rise in their numbers
@@ -271,11 +251,6 @@ groups_in_order selected jobs e =
   where
     of_job : (j : ℕ × JobRows) → are_rows j.1 ≡ true → EachPair (λ s t. IsBefore (asked_at j s) (asked_at j t)) j.1.spans
     of_job j h = pairs_weaker (λ (s t : Span). s.vol_index < t.vol_index) (λ s t. IsBefore (asked_at j s) (asked_at j t)) (λ s t lt. inr (refl, lt)) j.1.spans (spans_rise j.1 (rows_say j.1 h))
-
--- of two groups the one with the lower number is that of an earlier job, or of an earlier span of the job
-pub numbers_rise_with_spans : (selected : List Entry) (jobs : List JobRows) (m n : ℕ) (a b : Asked) → list_all are_rows jobs ≡ true → m < n
-    → slice_get (asked selected jobs) m ≡ Some a → slice_get (asked selected jobs) n ≡ Some b → IsBefore a b
-numbers_rise_with_spans selected jobs m n a b e lt p q = pairs_at IsBefore (asked selected jobs) m n a b (groups_in_order selected jobs e) lt p q
 
 -- ---- which group hits a fragment first
 
@@ -368,24 +343,7 @@ first_hitting_is selected jobs n a address f e at h =
     (and_from (bytes_eq a.span.volume a.span.volume) (hits (group_of selected a) address f) ((bytes_eq-Decides a.span.volume a.span.volume).1 refl) hit)
     ∙ ap Some (zero-add n)
 
--- a fragment that no span on the volume asks for is not hit
-pub first_hitting_none : (selected : List Entry) (jobs : List JobRows) (volume : List ℕ) (address : ℕ) (f : Fragment)
-    → ((n : ℕ) → IsAskedAt selected jobs volume address f n → ⊥) → first_hitting (groups_on (plan_groups selected jobs) volume) address f ≡ None
-first_hitting_none selected jobs volume address f never = go (first_hitting (groups_on (plan_groups selected jobs) volume) address f) refl
-  where
-    go : (o : Option ℕ) → first_hitting (groups_on (plan_groups selected jobs) volume) address f ≡ o → o ≡ None
-    go None e = refl
-    go (Some n) e = absurd (never n (first_hitting_says selected jobs volume address f n e))
-
 -- ---- a fragment in a block of a job's span
-
--- a fragment of a job's session, with a number above 0, in a block of a span of the job
-pub record IsInSpan (jobs : List JobRows) (j : JobRows) (s : Span) (address : ℕ) (f : Fragment) : Type 0 where
-  pub job : Contains jobs j
-  pub span : Contains j.spans s
-  pub inside : is_in_range s.start s.end address ≡ true
-  pub session : f.session ≡ j.row.session
-  pub positive : is_positive f.index ≡ true
 
 -- the number of the group of a job's span
 pub record IsNumberOf (selected : List Entry) (jobs : List JobRows) (j : JobRows) (s : Span) (n : ℕ) : Type 0 where
@@ -393,35 +351,3 @@ pub record IsNumberOf (selected : List Entry) (jobs : List JobRows) (j : JobRows
   pub number : slice_get (asked selected jobs) n ≡ Some of
   pub job_is : of.job ≡ j
   pub span_is : of.span ≡ s
-
--- with one of the selected indexes it is hit by the group of that span
-pub selected_is_hit : (selected : List Entry) (jobs : List JobRows) (j : JobRows) (s : Span) (address : ℕ) (f : Fragment) → is_history jobs ≡ true → IsInSpan jobs j s address f
-    → Contains (indexes_in selected j s) (nat_abs f.index)
-    → (n : ℕ) × IsNumberOf selected jobs j s n × (first_hitting (groups_on (plan_groups selected jobs) s.volume) address f ≡ Some n)
-selected_is_hit selected jobs j s address f e h c =
-    let p = part_has_number selected jobs j s h.job h.span (not_empty (indexes_in selected j s) (nat_abs f.index) c) in
-    (p.0, record { of = p.1; number = p.2; job_is = p.3; span_is = p.4 }, at p.0 p.1 p.2 p.3 p.4)
-  where
-    here : IsAsked j.row.session s (indexes_in selected j s) address f
-    here = record { positive = h.positive; session = h.session; inside = h.inside; among = c }
-
-    at : (n : ℕ) (a : Asked) → slice_get (asked selected jobs) n ≡ Some a → a.job ≡ j → a.span ≡ s → first_hitting (groups_on (plan_groups selected jobs) s.volume) address f ≡ Some n
-    at n a number job span =
-        let asked_here : IsAsked a.job.row.session a.span (indexes_in selected a.job a.span) address f =
-        subst (λ (x : Span). IsAsked a.job.row.session x (indexes_in selected a.job x) address f) (sym span) (subst (λ (k : JobRows). IsAsked k.row.session s (indexes_in selected k s) address f) (sym job) here) in
-        ap (λ (x : Span). first_hitting (groups_on (plan_groups selected jobs) x.volume) address f) (sym span) ∙ first_hitting_is selected jobs n a address f e number asked_here
-
--- with another index it is hit by no group
-pub other_is_not_hit : (selected : List Entry) (jobs : List JobRows) (j : JobRows) (s : Span) (address : ℕ) (f : Fragment) → is_history jobs ≡ true → IsInSpan jobs j s address f
-    → (Contains (indexes_in selected j s) (nat_abs f.index) → ⊥)
-    → first_hitting (groups_on (plan_groups selected jobs) s.volume) address f ≡ None
-other_is_not_hit selected jobs j s address f e h never =
-    first_hitting_none selected jobs s.volume address f (λ n w. never (is_among w))
-  where
-    is_among : {n : ℕ} → IsAskedAt selected jobs s.volume address f n → Contains (indexes_in selected j s) (nat_abs f.index)
-    is_among w =
-        let a = w.of in
-        let job : a.job ≡ j = one_job_of_session jobs a.job j e (has_at jobs a.place a.job w.part.place) h.job (sym w.asks_it.session ∙ h.session) in
-        let there : Contains j.spans a.span = subst (λ (k : JobRows). Contains k.spans a.span) job w.part.span in
-        let span : a.span ≡ s = one_span_of_address j a.span s address (history_rows jobs j e h.job) there h.span w.volume_is w.asks_it.inside h.inside in
-        subst (λ (x : Span). Contains (indexes_in selected j x) (nat_abs f.index)) span (subst (λ (k : JobRows). Contains (indexes_in selected k a.span) (nat_abs f.index)) job w.asks_it.among)

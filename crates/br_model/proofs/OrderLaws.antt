@@ -6,7 +6,7 @@ use Rattle.std.proofs.lemmas.List.Sorted.{IsPermutation-refl, IsPermutation-tran
 use Rattle.std.specs.Prelude.{Contains, T, slice_index}
 use Rattle.std.specs.List.{AllByRecursion}
 use Rattle.std.specs.List.Sorted.{IsPermutation}
-use Rattle.std.specs.FinMap.{FinMap, IsAntisymmetric, put, find, is_sorted, entries, entries_sorted, from_entries, entries-insert, same_map, get, len-entries, len-empty, slice_cmp-IsAntisymmetric, nat_cmp-IsAntisymmetric}
+use Rattle.std.specs.FinMap.{FinMap, IsAntisymmetric, put, find, is_sorted, entries, entries_sorted, from_entries, entries-insert, len-entries, len-empty, slice_cmp-IsAntisymmetric, nat_cmp-IsAntisymmetric}
 use Rattle.std.specs.FinMap.Entries.{by_order, below_all}
 use Rattle.std.specs.Cmp.{IsTotalOrder, tied_itself}
 use Rattle.std.specs.Cmp.Lexicographic.{slice_cmp, nat_list_cmp_total}
@@ -46,14 +46,6 @@ map_of {X} rank xs = from_entries (map (λ (x : X). (rank x, x)) xs)
 pub ranked-entries : {X : Type 0} (rank : X → List ℕ) (xs : List X) → ranked rank xs ≡ entries (map_of rank xs)
 unfolding ranked
 ranked-entries {X} rank xs = put_all-entries nat_list_cmp_total (map (λ (x : X). (rank x, x)) xs)
-
--- two lists whose look-ups by rank agree have one order
-pub same_order : {X : Type 0} (rank : X → List ℕ) (xs ys : List X) → ((q : List ℕ) → get (map_of rank xs) q ≡ get (map_of rank ys) q) → in_order rank xs ≡ in_order rank ys
-unfolding in_order
-same_order {X} rank xs ys h =
-    ap (λ (es : List (List ℕ × X)). map (λ (e : List ℕ × X). e.1) es) (ranked-entries rank xs
-    ∙ ap entries (same_map nat_list_cmp_total same_rank (map_of rank xs) (map_of rank ys) h)
-    ∙ sym (ranked-entries rank ys))
 
 -- ---- finding an entry
 

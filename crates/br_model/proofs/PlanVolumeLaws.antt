@@ -1,10 +1,10 @@
 -- The groups of a plan on one volume: over all volumes that extend those that hold its jobs, the
 -- walk finds the blocks of each of their spans.
-use Rattle.std.proofs.Common.{◌≡◌, ℕ, suc, ◌+◌, ◌<◌, Bool, true, false, not, ◌&&◌, ◌||◌, cond, List, [], ◌∷◌, length, ◌++◌, map, filter, Option, Some, None, Result, Ok, Err, refl, sym, ap, subst, ◌∙◌, inl, inr, arith}
+use Rattle.std.proofs.Common.{◌≡◌, ℕ, suc, ◌+◌, ◌<◌, Bool, true, false, not, ◌||◌, cond, List, [], ◌∷◌, length, ◌++◌, map, filter, Option, Some, None, Result, Ok, Err, refl, sym, ap, subst, ◌∙◌, arith}
 use Rattle.std.proofs.Math.Bool.{or-false}
-use Rattle.std.proofs.lemmas.Bool.{cases_lt, le-leb, and_parts, not-true, or_parts}
+use Rattle.std.proofs.lemmas.Bool.{or_parts}
 use Rattle.std.proofs.lemmas.Slice.Eq.{bytes_eq-Decides}
-use Rattle.std.specs.Prelude.{bytes_eq, Contains, flat_map, filter_map, find, fold, max, nat_le, option_map, unwrap_or}
+use Rattle.std.specs.Prelude.{bytes_eq, Contains, flat_map, filter_map, find, fold, max, option_map, unwrap_or}
 use Rattle.std.specs.Int.{is_in_range}
 use Rattle.std.specs.List.{AllByRecursion, AllZip, enumerate_from, list_any}
 use Rattle.br_model.specs.Answer.{◌>>=◌, refused_as, some_or}
@@ -13,16 +13,15 @@ use Rattle.br_model.specs.Volume.{Volume, volume_bytes, Extends, LaidBlock, Bloc
 use Rattle.br_model.specs.Block.{Fragment, fragments_of}
 use Rattle.br_model.specs.Bootstrap.{Range, Group, hits}
 use Rattle.br_model.specs.Meaning.{Hit, PieceFault, IsPiece, first_hitting, hit_at, covers, last_address, bound_of, is_covered, groups_on, just_groups, volumes_of, pieces_of, hits_in, blocks_for, hits_among, hits_on, hits_on_each, hits_of, meaning}
-use Rattle.br_model.specs.Job.{Span, JobRows, Job, no_pair, overlaps, are_rows}
+use Rattle.br_model.specs.Job.{Span, JobRows, Job}
 use Rattle.br_model.specs.Stored.{is_in_span, IsSpanLaid, Holds}
 use Rattle.br_model.specs.View.{Entry}
 use Rattle.br_model.specs.PlanMeaning.{rows_of_jobs}
 use Rattle.br_model.specs.Plan.{indexes_in, span_group, job_groups, plan_groups}
 use Rattle.br_model.proofs.VolumeLaws.{walk_is_exact_lem}
 use Rattle.br_model.proofs.PieceLaws.{on_from, piece_of, pieces_are_whole_lem}
-use Rattle.br_model.proofs.SpanLaws.{everywhere, less_covered, IsWholeTo, blocks_in, span_stays, IsLaidIn, IsLaidOn, last_end, is_in_any, end_not_above, AreApart, AreSpansLaid, spans_are_laid}
+use Rattle.br_model.proofs.SpanLaws.{everywhere, less_covered, IsWholeTo, blocks_in, span_stays, IsLaidIn, IsLaidOn, last_end, is_in_any, end_not_above, AreSpansLaid, spans_are_laid}
 use Rattle.br_model.proofs.ListLaws.{all_append, all_filter, all_weaker, contains_filter, from_image, to_each}
-use Rattle.br_model.proofs.PairLaws.{no_pair_clashes, no_pair_from, pairs_filter}
 use Rattle.br_model.proofs.ReachLaws.{hit_is_covered, IsWalked}
 
 -- ---- groups of spans
@@ -360,64 +359,3 @@ unfolding hits_in
 uncovered_has_no_hits numbered b e =
     nothing_mapped (λ (f : ℕ × Fragment). option_map (hit_at b f) (first_hitting numbered b.address f.1))
     (λ f. ap (option_map (hit_at b f)) (uncovered_is_not_hit numbered b.address f.1 e)) (enumerate_from 0 (fragments_of b.bytes))
-
--- the hits in some blocks are those in the blocks that are covered
-pub hits_in_covered : (numbered : List (ℕ × Group)) (bs : List LaidBlock)
-    → flat_map (hits_in numbered) bs ≡ flat_map (hits_in numbered) (filter (λ (b : LaidBlock). is_covered (just_groups numbered) b.address) bs)
-hits_in_covered numbered [] = refl
-hits_in_covered numbered (b ∷ bs) = go (is_covered (just_groups numbered) b.address) refl (hits_in_covered numbered bs)
-  where
-    kept : List LaidBlock
-    kept = filter (λ (c : LaidBlock). is_covered (just_groups numbered) c.address) bs
-
-    go : (t : Bool) → is_covered (just_groups numbered) b.address ≡ t → flat_map (hits_in numbered) bs ≡ flat_map (hits_in numbered) kept
-        → hits_in numbered b ++ flat_map (hits_in numbered) bs ≡ flat_map (hits_in numbered) (cond t (b ∷ kept) kept)
-    go true e rest = ap (λ (hs : List Hit). hits_in numbered b ++ hs) rest
-    go false e rest = ap (λ (hs : List Hit). hs ++ flat_map (hits_in numbered) bs) (uncovered_has_no_hits numbered b e) ∙ rest
-
--- ---- the spans of one job are apart
-
--- no pair of some elements clashes if none of all does
-pub no_pair_kept : {X : Type 0} (clash : X → X → Bool) (p : X → Bool) (xs : List X) → no_pair clash xs ≡ true → no_pair clash (filter p xs) ≡ true
-no_pair_kept clash p xs e = no_pair_from clash (filter p xs) (pairs_filter (λ x y. clash x y ≡ false) p xs (no_pair_clashes clash xs e))
-
-behind_on : (s : Span) (volume : List ℕ) (ss : List Span) → s.volume ≡ volume → list_any (overlaps s) ss ≡ false → AllByRecursion (λ (t : Span). s.end < t.start) (spans_on ss volume)
-behind_on s volume [] is e = tt
-behind_on s volume (t ∷ ts) is e =
-    let apart = or_parts (overlaps s t) (list_any (overlaps s) ts) e in
-    go (bytes_eq t.volume volume) refl apart.0 (behind_on s volume ts is apart.1)
-  where
-    behind : t.volume ≡ volume → (bytes_eq s.volume t.volume && nat_le t.start s.end) ≡ false → s.end < t.start
-    behind on none =
-        let same : bytes_eq s.volume t.volume ≡ true = (bytes_eq-Decides s.volume t.volume).1 (is ∙ sym on) in
-        elim (cases_lt s.end t.start) [
-          | inl lt ↦ lt
-          | inr le ↦ let low : nat_le t.start s.end ≡ true = le-leb t.start s.end le in absurd (both (bytes_eq s.volume t.volume) (nat_le t.start s.end) same low none)
-        ]
-      where
-        both : (a b : Bool) → a ≡ true → b ≡ true → (a && b) ≡ false → ⊥
-        both true b p q h = absurd cc
-        both false b p q h = absurd cc
-
-    go : (b : Bool) → bytes_eq t.volume volume ≡ b → (bytes_eq s.volume t.volume && nat_le t.start s.end) ≡ false
-        → AllByRecursion (λ (u : Span). s.end < u.start) (spans_on ts volume) → AllByRecursion (λ (u : Span). s.end < u.start) (cond b (t ∷ spans_on ts volume) (spans_on ts volume))
-    go true on none rest = (behind ((bytes_eq-Decides t.volume volume).0 on) none, rest)
-    go false on none rest = rest
-
--- of spans that do not overlap those on one volume are apart
-pub apart_on : (spans : List Span) (volume : List ℕ) → no_pair overlaps spans ≡ true → AreApart (spans_on spans volume)
-unfolding no_pair
-apart_on [] volume e = tt
-apart_on (s ∷ ss) volume e =
-    go (bytes_eq s.volume volume) refl (not-true (list_any (overlaps s) ss) (and_parts (not (list_any (overlaps s) ss)) (no_pair overlaps ss) e).0)
-    (apart_on ss volume (and_parts (not (list_any (overlaps s) ss)) (no_pair overlaps ss) e).1)
-  where
-    go : (b : Bool) → bytes_eq s.volume volume ≡ b → list_any (overlaps s) ss ≡ false → AreApart (spans_on ss volume) → AreApart (cond b (s ∷ spans_on ss volume) (spans_on ss volume))
-    go true on none rest = (behind_on s volume ss ((bytes_eq-Decides s.volume volume).0 on) none, rest)
-    go false on none rest = rest
-
--- the spans of a job on one volume that have a part of a selected file are apart
-pub job_spans_apart : (selected : List Entry) (j : JobRows) (volume : List ℕ) → are_rows j ≡ true → AreApart (spans_on (job_spans selected j) volume)
-unfolding are_rows
-job_spans_apart selected j volume e =
-    apart_on (job_spans selected j) volume (no_pair_kept overlaps (λ s. not (is_empty (indexes_in selected j s))) j.spans (and_parts _ _ e).1)

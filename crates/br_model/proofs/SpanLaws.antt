@@ -1,9 +1,9 @@
 -- Spans of volumes: a span that is laid stays so while volumes grow, and the walk for several spans finds the blocks of each.
-use Rattle.std.proofs.Common.{◌≡◌, ℕ, suc, ◌+◌, ◌<◌, ◌≤◌, Bool, true, false, not, ◌||◌, cond, ltb, List, [], ◌∷◌, length, ◌++◌, filter, Option, Some, None, Result, Ok, Err, refl, sym, ap, subst, ◌∙◌, inl, inr, arith}
-use Rattle.std.proofs.lemmas.Bool.{cases_lt, leb-true, ltb-true, ltb-false, le-ltb, lt-ltb, and_parts, both_ways, false_from_ne_true, or_cases}
+use Rattle.std.proofs.Common.{◌≡◌, ℕ, suc, ◌+◌, ◌<◌, ◌≤◌, Bool, true, false, not, cond, ltb, List, [], ◌∷◌, length, ◌++◌, filter, Option, Some, None, Result, Ok, Err, refl, sym, ap, subst, ◌∙◌, inl, inr, arith}
+use Rattle.std.proofs.lemmas.Bool.{cases_lt, leb-true, ltb-true, ltb-false, le-ltb, lt-ltb, and_parts, both_ways, false_from_ne_true}
 use Rattle.std.proofs.lemmas.Option.{same_Some}
 use Rattle.std.proofs.lemmas.List.{length-append, length-drop, length-take-le, take_all, take-append-drop, take-append-le, drop-append-le}
-use Rattle.std.specs.Prelude.{nat_le, Contains, drop, take, flat_map, fold, max}
+use Rattle.std.specs.Prelude.{nat_le, Contains, drop, take, fold, max}
 use Rattle.std.specs.List.{AllByRecursion, AllZip, list_any}
 use Rattle.br_model.specs.Name.{SessionKey}
 use Rattle.br_model.specs.Block.{Header, u32_at, older_letters, header_length, has_letters, session_of, read_header, read_block}
@@ -12,7 +12,7 @@ use Rattle.br_model.specs.Job.{Span, Job}
 use Rattle.br_model.specs.Stored.{is_in_span, IsSpanLaid, Holds}
 use Rattle.br_model.proofs.AnswerLaws.{bind_ok, chosen, ok_is, err_is_not_ok}
 use Rattle.br_model.proofs.VolumeLaws.{at_least_16, at_most_24, header_reads, header_has_16, laid_is_found}
-use Rattle.br_model.proofs.ListLaws.{all_any, all_filter, all_weaker, at_least, filter_within, first_or_later, keeps_none, kept_passes}
+use Rattle.br_model.proofs.ListLaws.{all_weaker, at_least, filter_within, first_or_later, keeps_none, kept_passes}
 use Rattle.br_model.proofs.PairLaws.{EachPair}
 
 -- ---- the front of a volume
@@ -309,11 +309,6 @@ span_blocks_are volumes bytes end all s blocks whole found le is =
         let le_end = leb-true b.address s.end (and_parts (nat_le s.start b.address) (nat_le b.address s.end) e).1 in
         ap not (le-ltb s.end b.address le_end)
 
--- a span is laid in one list of blocks
-pub span_laid_once : (volumes : List Volume) (s : Span) (blocks others : List LaidBlock) → IsSpanLaid volumes s blocks → IsSpanLaid volumes s others → blocks ≡ others
-span_laid_once volumes s blocks others is are =
-    is.blocks_are ∙ sym (span_blocks_are volumes is.bytes s.end is.all s others (span_is_whole volumes s blocks is) is.found (omega arith) are)
-
 -- a span is laid in some blocks
 abbrev pub IsLaidIn : List Volume → Span → Type 0
 IsLaidIn volumes s = (blocks : List LaidBlock) × IsSpanLaid volumes s blocks
@@ -421,80 +416,12 @@ AreApart spans = EachPair (λ (s t : Span). s.end < t.start) spans
 in_span : (s : Span) (address : ℕ) → is_in_span s address ≡ true → (s.start ≤ address) × (address ≤ s.end)
 in_span s address e = (leb-true s.start address (and_parts (nat_le s.start address) (nat_le address s.end) e).0, leb-true address s.end (and_parts (nat_le s.start address) (nat_le address s.end) e).1)
 
--- what is in a later span is after the span's end
-any_behind : (end : ℕ) (spans : List Span) (address : ℕ) → AllByRecursion (λ (t : Span). end < t.start) spans → is_in_any spans address ≡ true → end < address
-any_behind end [] address apart e = absurd cc
-any_behind end (t ∷ ts) address apart e =
-    elim (or_cases (is_in_span t address) (is_in_any ts address) e) [
-      | inl q ↦ let h = (in_span t address q).0 in omega (arith, h, apart.0)
-      | inr q ↦ any_behind end ts address apart.1 q
-    ]
-
--- an address in a span is in no later one
-pub in_no_later : (s : Span) (spans : List Span) (address : ℕ) → AllByRecursion (λ (t : Span). s.end < t.start) spans → is_in_span s address ≡ true → is_in_any spans address ≡ false
-in_no_later s spans address apart e = go (is_in_any spans address) refl
-  where
-    go : (b : Bool) → is_in_any spans address ≡ b → is_in_any spans address ≡ false
-    go true q = let h = (in_span s address e).1 in let k = any_behind s.end spans address apart q in absurd (omega (arith, h, k))
-    go false q = q
-
 none_passes : (test : ℕ → Bool) (end from : ℕ) (bs : List LaidBlock) → ((a : ℕ) → test a ≡ true → a ≤ end) → end < from → AllByRecursion (IsBehind from) bs
     → filter (λ (b : LaidBlock). test b.address) bs ≡ []
 none_passes test end from bs below lt behind = keeps_none (λ (b : LaidBlock). test b.address) bs (all_weaker (IsBehind from) (λ (b : LaidBlock). test b.address ≡ false) fails bs behind)
   where
     fails : (b : LaidBlock) → IsBehind from b → test b.address ≡ false
     fails b le = false_from_ne_true (test b.address) (λ e. let h = below b.address e in omega (arith, h, lt, le))
-
--- blocks in order that pass a test up to an address, or another after it, are those of the one and
--- then those of the other
-pub filter_in_turn : (first second : ℕ → Bool) (end : ℕ) → ((a : ℕ) → first a ≡ true → a ≤ end) → ((a : ℕ) → second a ≡ true → end < a)
-    → (bs : List LaidBlock) → AreAscending bs
-    → filter (λ (b : LaidBlock). first b.address || second b.address) bs ≡ filter (λ (b : LaidBlock). first b.address) bs ++ filter (λ (b : LaidBlock). second b.address) bs
-filter_in_turn first second end below above [] up = refl
-filter_in_turn first second end below above (b ∷ bs) up =
-    go (first b.address) (second b.address) refl refl (filter_in_turn first second end below above bs up.1)
-  where
-    one : List LaidBlock
-    one = filter (λ (c : LaidBlock). first c.address) bs
-
-    other : List LaidBlock
-    other = filter (λ (c : LaidBlock). second c.address) bs
-
-    both : List LaidBlock
-    both = filter (λ (c : LaidBlock). first c.address || second c.address) bs
-
-    go : (p q : Bool) → first b.address ≡ p → second b.address ≡ q → both ≡ one ++ other → cond (p || q) (b ∷ both) both ≡ cond p (b ∷ one) one ++ cond q (b ∷ other) other
-    go true true e f rest = let h = below b.address e in let k = above b.address f in absurd (omega (arith, h, k))
-    go true false e f rest = ap (λ (xs : List LaidBlock). b ∷ xs) rest
-    go false true e f rest =
-        let k = above b.address f in
-        let none : one ≡ [] = none_passes first end (b.address + 16) bs below (omega (arith, k)) up.0 in
-        ap (λ (xs : List LaidBlock). b ∷ xs) (rest ∙ ap (λ (xs : List LaidBlock). xs ++ other) none) ∙ ap (λ (xs : List LaidBlock). xs ++ b ∷ other) (sym none)
-    go false false e f rest = rest
-
--- the blocks in spans that are apart are those of the first, then those of the next, and so on
-pub blocks_in_turn : (spans : List Span) (all : List LaidBlock) → AreApart spans → AreAscending all
-    → filter (λ (b : LaidBlock). is_in_any spans b.address) all ≡ flat_map (λ s. blocks_in s all) spans
-blocks_in_turn [] all apart up = keeps_none (λ (b : LaidBlock). is_in_any [] b.address) all (all_any (λ (b : LaidBlock). is_in_any [] b.address ≡ false) (λ b. refl) all)
-blocks_in_turn (s ∷ ss) all apart up =
-    filter_in_turn (is_in_span s) (is_in_any ss) s.end (λ a e. (in_span s a e).1) (λ a e. any_behind s.end ss a apart.0 e) all up
-    ∙ ap (λ (xs : List LaidBlock). blocks_in s all ++ xs) (blocks_in_turn ss all apart.1 up)
-
--- the blocks of spans that are laid on one volume, one ending before the next begins, are in turn those that are in one of them
-pub spans_in_turn : (volumes : List Volume) (bytes : List ℕ) (end : ℕ) (all : List LaidBlock) (spans : List Span) (blocks : List (List LaidBlock))
-    → IsWholeTo bytes end all → AllByRecursion (λ (s : Span). (volume_bytes volumes s.volume ≡ Some bytes) × (s.end ≤ end)) spans → AreApart spans
-    → AllZip (IsSpanLaid volumes) spans blocks → filter (λ (b : LaidBlock). is_in_any spans b.address) all ≡ flat_map (λ (bs : List LaidBlock). bs) blocks
-spans_in_turn volumes bytes end all spans blocks whole on apart laid =
-    blocks_in_turn spans all apart (laid_ascend 0 bytes (Some end) everywhere all whole.laid) ∙ each spans blocks on laid
-  where
-    each : (ss : List Span) (bss : List (List LaidBlock)) → AllByRecursion (λ (s : Span). (volume_bytes volumes s.volume ≡ Some bytes) × (s.end ≤ end)) ss
-        → AllZip (IsSpanLaid volumes) ss bss → flat_map (λ s. blocks_in s all) ss ≡ flat_map (λ (bs : List LaidBlock). bs) bss
-    each [] [] here is = refl
-    each [] (bs ∷ bss) here is = absurd is
-    each (s ∷ ss) [] here is = absurd is
-    each (s ∷ ss) (bs ∷ bss) here is =
-        ap (λ (xs : List LaidBlock). xs ++ flat_map (λ t. blocks_in t all) ss) (sym (span_blocks_are volumes bytes end all s bs whole here.0.0 here.0.1 is.0))
-        ∙ ap (λ (xs : List LaidBlock). bs ++ xs) (each ss bss here.1 is.1)
 
 -- ---- whole blocks by themselves
 
@@ -503,23 +430,3 @@ pub record IsWholeBlock (b : LaidBlock) : Type 0 where
   pub header : Header
   pub read : read_header b.bytes ≡ Ok header
   pub size_is : length b.bytes ≡ header.size
-
--- each block that is laid and covered is whole
-pub laid_are_whole : (address : ℕ) (left : List ℕ) (bound : Option ℕ) (bs : List LaidBlock) → AreLaidFrom address left bound everywhere bs → AllByRecursion IsWholeBlock bs
-laid_are_whole address left bound [] laid = tt
-laid_are_whole address left bound (b ∷ bs) laid =
-    let h = laid.2 in
-    let fits : length (take h.size left) ≡ h.size = length-take-le h.size left (laid.4 refl) in
-    let joined : take h.size left ++ drop h.size left ≡ left = take-append-drop h.size left in
-    let read : read_header (take h.size left) ≡ Ok h = read_header_fewer (take h.size left) (drop h.size left) h (ap read_header joined ∙ laid.3) (omega (arith, fits)) in
-    let bytes_are : take h.size left ≡ b.bytes = ap (λ (y : LaidBlock). y.bytes) (sym laid.5) in
-    let same : length (take h.size left) ≡ length b.bytes = ap length bytes_are in (
-      record { header = h; read = ap read_header (sym bytes_are) ∙ read; size_is = sym same ∙ fits },
-      laid_are_whole (address + h.size) (drop h.size left) bound bs laid.6,
-    )
-
--- each block of a span that is laid is whole
-pub span_blocks_are_whole : (volumes : List Volume) (s : Span) (blocks : List LaidBlock) → IsSpanLaid volumes s blocks → AllByRecursion IsWholeBlock blocks
-span_blocks_are_whole volumes s blocks is =
-    subst (λ (bs : List LaidBlock). AllByRecursion IsWholeBlock bs) (sym is.blocks_are)
-    (all_filter IsWholeBlock (λ (b : LaidBlock). is_in_span s b.address) is.all (laid_are_whole 0 is.bytes (Some s.end) is.all (span_is_whole volumes s blocks is).laid))

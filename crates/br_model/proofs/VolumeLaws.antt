@@ -68,10 +68,6 @@ unless : (a b : Bool) → (a ≡ true → b ≡ false) → (a && b) ≡ false
 unless true b h = h refl
 unless false b h = refl
 
--- the steps of the walk after the test for its end
-at_address : ℕ → ℕ → BlockFault
-at_address address number = record { number = number; address = address }
-
 -- the block at an address that a header says
 abbrev pub laid_block : ℕ → List ℕ → Header → LaidBlock
 laid_block address left h = record { address = address; bytes = take h.size left }

@@ -1,7 +1,6 @@
 -- The entries that one test selects are the model's selection.
-use Rattle.std.proofs.Common.{◌≡◌, ℕ, Bool, true, false, ◌&&◌, ◌||◌, cond, eqb, List, [], ◌∷◌, ◌++◌, length, map, filter, Option, Some, None, ℤ, pos, negsuc, refl, sym, ap, subst, ◌∙◌, append_assoc, inl, inr}
+use Rattle.std.proofs.Common.{◌≡◌, ℕ, Bool, true, false, ◌&&◌, ◌||◌, cond, eqb, List, [], ◌∷◌, ◌++◌, map, filter, Option, Some, None, ℤ, pos, negsuc, refl, sym, ap, subst, ◌∙◌, append_assoc, inl, inr}
 use Rattle.std.proofs.lemmas.Bool.{and_parts, and_from, or_cases, or_left, both_ways, eqb-true, or_right}
-use Rattle.std.proofs.lemmas.List.{nil_from_length}
 use Rattle.std.proofs.lemmas.Slice.Eq.{bytes_eq-Decides}
 use Rattle.std.specs.Prelude.{Contains, bytes_eq, find, flat_map, option_to_list, nat_lt}
 use Rattle.std.specs.BTreeSet.{BTreeSet}
@@ -83,12 +82,6 @@ pub link_more : (before after : BTreeSet FileOf) (rest : List Pair) (left : List
 link_more before after rest left p more flag others total h is_rest is_left adds q =
     ap (λ b. b || is_linked_by more others q) (adds q) ∙ or_grouped (has_file before q) (flag && links_to q (shown_pair p)) (is_linked_by more others q)
     ∙ ap (λ r. has_file before q || is_linked_by r (flag ∷ others) q) (sym is_rest) ∙ ap (λ fs. has_file before q || is_linked_by rest fs q) (sym is_left) ∙ h q
-
--- no entry is left
-pub links_all : (set : BTreeSet FileOf) (rest : List Pair) (left : List Bool) (total : FileOf → Bool)
-    → ((q : FileOf) → (has_file set q || is_linked_by rest left q) ≡ total q) → length rest ≡ 0 → (q : FileOf) → has_file set q ≡ total q
-links_all set rest left total h none q =
-    sym (or_none (has_file set q)) ∙ ap (λ r. has_file set q || is_linked_by r left q) (sym (nil_from_length rest none)) ∙ h q
 
 -- an entry more that may be kept, of those that are left
 pub kept_more : (linked : FileOf → Bool) (items new : List Pair) (rest : List Pair) (left : List Bool) (p : Pair) (more : List Pair) (flag wanted : Bool) (others : List Bool) (total : List Pair)

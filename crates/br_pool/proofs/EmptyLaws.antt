@@ -1,13 +1,12 @@
 -- The slots that are empty, and that a round in which no drive goes out leaves none.
 use Rattle.std.proofs.Common.{◌≡◌, ℕ, zero, suc, ◌+◌, ◌<◌, ◌≤◌, ◌⊎◌, inl, inr, Bool, true, false, cond, ltb, lt-ltb, List, [], ◌∷◌, ◌++◌, map, length, drop, slice_index_or, Option, Some, None, refl, ap, sym, subst, ◌∙◌, append_assoc, arith}
-use Rattle.std.proofs.lemmas.List.{append-nil}
 use Rattle.std.specs.Prelude.{if◌then◌else◌}
 use Rattle.std.specs.List.{AllByRecursion, list_any}
 use Rattle.br_claim.specs.Claims.{Seated, AreDealt, some_ended, times_in}
 use Rattle.br_claim.specs.Rule.{times}
 use Rattle.br_pool.specs.Workers.{Answer, AreAllAnswered, count_in, number_at, numbers_of}
 use Rattle.br_pool.specs.Slots.{AllBelow, empties, is_empty, rounds_left, with_each}
-use Rattle.br_pool.proofs.ListLaws.{drop_at, drop_all}
+use Rattle.br_pool.proofs.ListLaws.{drop_at}
 use Rattle.br_pool.proofs.SlotLaws.{length_with_each}
 use Rattle.br_pool.proofs.FilledLaws.{FilledAt, each_filled, each_keeps}
 
@@ -20,9 +19,6 @@ empties_more left new slots k s all low is h e =
     subst (λ n. new ++ empties n (drop n slots) ≡ all) one
     (ap (λ l. l ++ empties (suc k) (drop (suc k) slots)) e ∙ append_assoc left (if is_empty s then k ∷ [] else []) (empties (suc k) (drop (suc k) slots))
     ∙ ap (λ l. left ++ empties k l) (sym (drop_at slots k s low is)) ∙ h)
-
-pub empties_done : (left all : List ℕ) (slots : List (Option Answer)) (n : ℕ) → n ≡ length slots → left ++ empties n (drop n slots) ≡ all → left ≡ all
-empties_done left all slots n len h = sym (append-nil left) ∙ ap (λ l. left ++ empties n l) (sym (drop_all slots n len)) ∙ h
 
 -- each is the number of a slot
 pub empties_low : (k n : ℕ) (slots : List (Option Answer)) → k + length slots ≤ n → AllByRecursion (λ (x : ℕ). x < n) (empties k slots)

@@ -8,7 +8,6 @@ pub mod EmptyLaws
 pub mod WorkersLaws
 pub mod NumberLaws
 pub mod BackLaws
-pub mod JoinedLaws
 pub mod WorkedLaws
 pub mod ReaderLaws
 pub mod PlaceLaws

@@ -103,12 +103,3 @@ whole_later stays a b had rest now on whole = record {
   keys = whole.keys;
   same = λ given. whole.same (hits_kept stays a b rest on given);
 }
-
--- a file that is read on later, and that is given before
-pub on_later : StandingStays → (a b : RereadingMany) (had rest : List Hit) (now : Digesting) (left : List Hit) → GoOn a b → ReadsOn b had rest now left → ReadsOn a had rest now left
-on_later stays a b had rest now left on reads = record {
-  read = reads.read;
-  keys = reads.keys;
-  given = reads.given;
-  same = λ given. reads.same (hits_kept stays a b rest on given);
-}

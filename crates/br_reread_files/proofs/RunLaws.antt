@@ -1,15 +1,14 @@
 -- Runs of hits, and the first of their files.
-use Rattle.std.proofs.Common.{◌≡◌, ◌≤◌, ℕ, zero, suc, List, [], ◌∷◌, ◌++◌, map, take, length, length-append, Some, refl, ap, sym, subst, ◌∙◌, arith}
+use Rattle.std.proofs.Common.{◌≡◌, ◌≤◌, ℕ, zero, suc, List, [], ◌∷◌, ◌++◌, take, length, Some, refl, ap, sym, subst, arith}
 use Rattle.std.specs.Prelude.{slice_get}
 use Rattle.std.specs.List.{AllByRecursion}
-use Rattle.std.proofs.lemmas.List.{map-append}
 use Rattle.std.proofs.lemmas.Option.{same_Some}
 use Rattle.br_model.specs.Meaning.{Hit}
 use Rattle.br_model.specs.Restored.{Restored}
 use Rattle.br_data.specs.StandingHits.{StandingStays}
 use Rattle.br_data.specs.ManyDrives.{GoOn, RereadingMany}
 use Rattle.br_reread_parts.specs.Given.{GivesHits}
-use Rattle.br_join.specs.Runs.{IsPart, Run, file_of}
+use Rattle.br_join.specs.Runs.{IsPart, Run}
 use Rattle.br_reread_files.specs.Runs.{AreFirst, GivesRuns}
 use Rattle.br_reread_parts.proofs.GivenLaws.{hits_kept}
 use Rattle.br_reread_files.proofs.GivenLaws.{given_run}
@@ -24,12 +23,6 @@ pub runs_kept : StandingStays → (a b : RereadingMany) (runs : List Run) → Go
 runs_kept stays a b [] on given = tt
 runs_kept stays a b (r ∷ rs) on given = (hits_kept stays a b r.hits on given.0, runs_kept stays a b rs on given.1)
 
--- the hits of one file are given
-pub run_given : (m : RereadingMany) (runs : List Run) (i : ℕ) (r : Run) → slice_get runs i ≡ Some r → GivesRuns m runs → GivesHits m r.hits
-run_given m [] i r is given = absurd cc
-run_given m (q ∷ qs) zero r is given = subst (λ (x : Run). GivesHits m x.hits) (same_Some q r is) given.0
-run_given m (q ∷ qs) (suc i) r is given = run_given m qs i r is given.1
-
 -- ---- the first files
 
 take_next : {X : Type 0} (xs : List X) (n : ℕ) (x : X) → slice_get xs n ≡ Some x → take (suc n) xs ≡ take n xs ++ x ∷ []
@@ -42,21 +35,6 @@ take_whole [] zero low = refl
 take_whole [] (suc n) low = refl
 take_whole (x ∷ xs) zero low = absurd (omega (arith, low))
 take_whole (x ∷ xs) (suc n) low = ap (λ l. x ∷ l) (take_whole xs n (omega (arith, low)))
-
--- one file more
-pub first_more : (runs : List Run) (made new : List Restored) (r : Run) (f : Restored) → slice_get runs (length made) ≡ Some r → f ≡ file_of r → new ≡ made ++ f ∷ []
-    → AreFirst runs made → AreFirst runs new
-first_more runs made new r f at is pushed first =
-    let one : suc (length made) ≡ length new = omega (arith, ap length pushed, length-append made (f ∷ [])) in
-    pushed
-    ∙ (λ i. first i ++ is i ∷ [])
-    ∙ sym (map-append file_of (take (length made) runs) (r ∷ []))
-    ∙ ap (map file_of) (sym (take_next runs (length made) r at))
-    ∙ ap (λ (n : ℕ). map file_of (take n runs)) one
-
--- if as many files are made as there are runs, these are all of them
-pub first_all : (runs : List Run) (made : List Restored) → length runs ≤ length made → AreFirst runs made → made ≡ map file_of runs
-first_all runs made low first = first ∙ ap (map file_of) (take_whole runs (length made) low)
 
 -- none are the first ones
 pub none_first : (runs : List Run) (made : List Restored) → made ≡ [] → AreFirst runs made

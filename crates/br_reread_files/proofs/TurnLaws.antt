@@ -1,5 +1,5 @@
 -- Lists that grow at their end, and lists the other way round.
-use Rattle.std.proofs.Common.{◌≡◌, ℕ, zero, suc, ◌+◌, ◌<◌, List, [], ◌∷◌, ◌++◌, map, flat_map, reverse, length, take, drop, slice_index_or, refl, ap, sym, subst, ◌∙◌, append_assoc, arith}
+use Rattle.std.proofs.Common.{◌≡◌, ℕ, suc, ◌+◌, ◌<◌, List, [], ◌∷◌, ◌++◌, map, flat_map, reverse, length, take, drop, slice_index_or, refl, ap, sym, subst, ◌∙◌, append_assoc, arith}
 use Rattle.std.specs.List.{AllByRecursion, AllZip}
 use mathlib.Core.List.{reverse-append}
 
@@ -138,19 +138,6 @@ last_alone xs (y ∷ ys) x one e = absurd (omega (arith, one, ap length e, grows
 
 -- ---- what is left from a place on
 
-drop_none : {X : Type 0} (n : ℕ) → drop {A = X} n [] ≡ []
-drop_none zero = refl
-drop_none (suc n) = refl
-
-drop_sum : {X : Type 0} (n k : ℕ) (xs : List X) → drop (n + k) xs ≡ drop k (drop n xs)
-drop_sum zero k xs = let e : 0 + k ≡ k = omega arith in rw e refl
-drop_sum (suc n) k [] = drop_none (suc n + k) ∙ sym (drop_none k)
-drop_sum (suc n) k (x ∷ xs) = let e : suc n + k ≡ suc (n + k) = omega arith in rw e (drop_sum n k xs)
-
 drop_front : {X : Type 0} (xs ys : List X) → drop (length xs) (xs ++ ys) ≡ ys
 drop_front [] ys = refl
 drop_front (x ∷ xs) ys = drop_front xs ys
-
--- what comes next, and what comes after it
-pub next_and_rest : {X : Type 0} (xs next rest : List X) (n : ℕ) → next ++ rest ≡ drop n xs → next ++ drop (n + length next) xs ≡ drop n xs
-next_and_rest xs next rest n e = ap (λ l. next ++ l) (drop_sum n (length next) xs ∙ ap (drop (length next)) (sym e) ∙ drop_front next rest) ∙ e

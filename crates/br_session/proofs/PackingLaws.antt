@@ -42,11 +42,6 @@ size_more fs f = omega (arith, sum_by-append (λ (g : Fragment). 12 + length g.b
 pub size_of_some : (fs : List Fragment) → 24 < block_size fs → fs ≡ [] → ⊥
 size_of_some fs lt e = omega (arith, ap block_size e)
 
--- a block without fragments has a header alone
-pub size_of_none : (fs : List Fragment) → block_size fs ≡ 24 → fs ≡ []
-size_of_none [] e = refl
-size_of_none (f ∷ fs) e = absurd (omega (arith, sum_by-append (λ (g : Fragment). 12 + length g.bytes) (f ∷ []) fs))
-
 written_more : (fs : List Fragment) (f : Fragment) → AllByRecursion (λ (g : Fragment). length g.bytes ≡ g.size) fs → length f.bytes ≤ f.size → (0 < f.size → 0 < length f.bytes)
     → AreWritten (fs ++ f ∷ [])
 written_more [] f whole within some = (within, some)

@@ -17,18 +17,12 @@ use Rattle.br_session.specs.Records.{Adds, AddsUpTo, digest_part}
 
 -- ---- one after another
 
-pub adds_none : (p : Packer) → Adds p p []
-adds_none p = record { packs = λ records has. subst (Packs p) (sym (append-nil records)) has; session = refl; limit = refl }
-
 pub adds_both : (before mid after : Packer) (xs ys : List Record) → Adds before mid xs → Adds mid after ys → Adds before after (xs ++ ys)
 adds_both before mid after xs ys a b = record {
   packs = λ records has. subst (Packs after) (append_assoc records xs ys) (b.packs (records ++ xs) (a.packs records has));
   session = b.session ∙ a.session;
   limit = b.limit ∙ a.limit;
 }
-
-pub adds_start : (p : Packer) (all left : List Record) → left ≡ all → AddsUpTo p p all left
-adds_start p all left same = record { more = []; adds = adds_none p; joined = same }
 
 pub adds_step : (before mid after : Packer) (all xs left behind : List Record) → AddsUpTo before mid all left → left ≡ xs ++ behind → Adds mid after xs → AddsUpTo before after all behind
 adds_step before mid after all xs left behind so_far next a = record {

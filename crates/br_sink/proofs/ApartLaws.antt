@@ -43,10 +43,6 @@ items_none r rs e = rw e refl
 items_some : (r : Restored) (rs : List Restored) (item : Item) → item_of r ≡ Some item → filter_map item_of (r ∷ rs) ≡ item ∷ filter_map item_of rs
 items_some r rs item e = rw e refl
 
-not_way : (b : Bool) → not b ≡ true → b ≡ false
-not_way true h = absurd cc
-not_way false h = refl
-
 not_free : (b : Bool) → b ≡ false → not b ≡ true
 not_free true h = absurd cc
 not_free false h = refl
@@ -260,30 +256,3 @@ module _ (ways after : Ways) (flags : List Bool) (left : List (List ℕ)) (wante
       let all : paths ≡ left ++ out_at b k (restored o) = is_left ∙ ap (λ (x : Bool). left ++ cond x (with_path [] (item_of (restored o))) []) is_out in
       subst (λ (ps : List (List ℕ)). Walked after next ps wanted os (place + 1)) (sym all)
       (subst (λ (fs : List Bool). Walked after fs (left ++ out_at b k (restored o)) wanted os (place + 1)) (sym is_next) (walked_more b k e kept))
-
--- all outcomes
-pub walked_all : (ways : Ways) (flags : List Bool) (left : List (List ℕ)) (wanted : List Bool) (os : List (FileKey × Outcome)) (place : ℕ) → length os ≡ place
-    → Walked ways flags left wanted os place → (wanted_of flags os ≡ apart (wanted_of wanted os)) × (left ≡ conflicts (wanted_of wanted os))
-walked_all ways flags left wanted os place all w =
-    let none : drop place os ≡ [] = drop_all os place (sym all) in
-    let rest : wanted_of (drop place wanted) (drop place os) ≡ [] = ap (wanted_of (drop place wanted)) none ∙ nothing (drop place wanted) in (
-      sym (ap (wanted_of flags) (take_whole os place (sym all))) ∙ sym (append-nil (wanted_of flags (take place os)))
-          ∙ sym (ap (λ (rs : List Restored). wanted_of flags (take place os) ++ apart_beside w.paths rs) rest) ∙ w.kept,
-      sym (append-nil left) ∙ sym (ap (λ (rs : List Restored). left ++ conflicts_beside w.paths rs) rest) ∙ w.out,
-    )
-  where
-    drop_all : {X : Type 0} (xs : List X) (i : ℕ) → i ≡ length xs → drop i xs ≡ []
-    drop_all [] zero e = refl
-    drop_all [] (suc i) e = refl
-    drop_all (x ∷ xs) zero e = absurd (omega (arith, e))
-    drop_all (x ∷ xs) (suc i) e = drop_all xs i (omega (arith, e))
-
-    take_whole : {X : Type 0} (xs : List X) (i : ℕ) → i ≡ length xs → take i xs ≡ xs
-    take_whole [] zero e = refl
-    take_whole [] (suc i) e = refl
-    take_whole (x ∷ xs) zero e = absurd (omega (arith, e))
-    take_whole (x ∷ xs) (suc i) e = ap (λ (zs : List _). x ∷ zs) (take_whole xs i (omega (arith, e)))
-
-    nothing : (bs : List Bool) → wanted_of bs [] ≡ []
-    nothing [] = refl
-    nothing (b ∷ bs) = refl

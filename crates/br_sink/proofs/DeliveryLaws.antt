@@ -1,5 +1,5 @@
 -- Deliveries up to a file, and at it.
-use Rattle.std.proofs.Common.{◌≡◌, ℕ, ◌+◌, ◌<◌, ◌≤◌, Bool, true, false, not, cond, List, [], ◌∷◌, ◌++◌, length, take, drop, map, refl, ap, sym, subst, ◌∙◌, arith, append_assoc, Option, Some, None, Result, Ok, Err, get_or, length-append, append-nil, add-zero, ◌⊎◌, inl, inr}
+use Rattle.std.proofs.Common.{◌≡◌, ℕ, ◌+◌, ◌<◌, ◌≤◌, Bool, true, false, not, cond, List, [], ◌∷◌, ◌++◌, length, take, drop, map, refl, ap, sym, subst, ◌∙◌, arith, append_assoc, Option, Some, None, Result, Ok, Err, get_or, length-append, append-nil, add-zero, inl, inr}
 use Rattle.std.specs.Prelude.{filter_map}
 use Rattle.std.specs.List.{list_any}
 use Rattle.std.proofs.Math.Seq.{take-append_seam, take-length}
@@ -172,16 +172,6 @@ stand_before os place files item rest less many around apart way = record {
       ∙ ap (λ (n : ℕ). Err (record { number = 81; done = n })) (sym many);
 }
 
--- all outcomes
-pub stand_all : (os : List (FileKey × Outcome)) (place files : ℕ) → place ≡ length os → files ≡ length (items_in (take place os)) → AreApart (items_in (take place os)) → StandApart os place files
-stand_all os place files all many apart = record {
-  inside = omega (arith, all);
-  many = many;
-  apart = apart;
-  within = λ less. absurd (omega (arith, all, less));
-  next = λ less. absurd (omega (arith, all, less));
-}
-
 -- one file is apart
 pub one_apart : (items : List model.Item) → AreApart (take 1 items)
 unfolding put_behind
@@ -250,11 +240,6 @@ module _ (os : List (FileKey × Outcome)) (place files : ℕ) (stands : StandApa
     before = subst AreApart (sym (taken_items os place files (omega (arith, stands.many)))) (apart_taken (items_in (take place os)) files stands.apart);
     at_it = λ other. absurd (other refl);
   }
-
--- a stop for memory that ran out or for the sink says nothing of the model
-pub no_cause : (stop : Stop) (rs : List Restored) → (stop.number ≡ 1) ⊎ (stop.number ≡ 80) → IsRefusal (stop_cause stop) (delivery rs)
-no_cause stop rs (inl one) = rw one tt
-no_cause stop rs (inr eighty) = rw eighty tt
 
 -- the stop at a file whose path conflicts is the model's
 pub way_refused : (rs : List Restored) (files : ℕ) → put_behind [] (filter_map item_of rs) ≡ Err (record { number = 81; done = files })

@@ -42,13 +42,6 @@ not_length (b ∷ bs) = ap suc (not_length bs)
 
 -- ---- what the sink has
 
-pub nothing_put : (has : Option (List Item)) → ArePut has has [] []
-nothing_put has = record { flags = []; each = refl; put = none_added has; others = refl }
-  where
-    none_added : (has : Option (List Item)) → HasMore [] has has
-    none_added None = tt
-    none_added (Some items) = sym (append-nil items)
-
 more_added : (items more : List Item) (first second third : Option (List Item)) → HasMore items first second → HasMore more second third → HasMore (items ++ more) first third
 more_added items more None None None a b = tt
 more_added items more (Some first) (Some second) (Some third) a b = b ∙ ap (λ (is : List Item). is ++ more) a ∙ append_assoc first items more

@@ -1,15 +1,11 @@
 -- Texts that are written in parts, one part after another.
-use Rattle.std.proofs.Common.{◌≡◌, ℕ, ◌+◌, ◌<◌, List, [], ◌∷◌, ◌++◌, length, get_or, take, map, refl, sym, ap, subst, ◌∙◌, append_assoc, Option}
+use Rattle.std.proofs.Common.{◌≡◌, ℕ, ◌+◌, ◌<◌, List, [], ◌∷◌, ◌++◌, length, get_or, take, map, sym, ap, subst, ◌∙◌, append_assoc, Option}
 use Rattle.std.specs.Prelude.{flat_map}
 use Rattle.std.proofs.lemmas.Grind.{flat_map-append}
 use Rattle.std.proofs.lemmas.List.{append-nil, map-append, take_more}
-use Rattle.std.proofs.KnownBytes.{Appends-nil, Appends-trans}
+use Rattle.std.proofs.KnownBytes.{Appends-trans}
 use Rattle.std.specs.Io.KnownBytes.{Appends}
 use Rattle.br_sink.specs.ManifestParts.{WritesPart}
-
--- nothing is written yet
-pub all_left : (a : Option (List ℕ)) (text : List ℕ) → WritesPart a a text text
-all_left a text = record { first = []; parted = refl; written = Appends-nil a }
 
 -- all is written
 pub none_left : (a b : Option (List ℕ)) (text : List ℕ) → Appends a b text → WritesPart a b [] text

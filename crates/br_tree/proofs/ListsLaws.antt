@@ -1,6 +1,6 @@
 -- Lists of pairs and flags, step by step.
-use Rattle.std.proofs.Common.{zero, suc, ◌<◌, get_or, ◌≡◌, ℕ, ◌+◌, Bool, true, false, not, ◌||◌, cond, List, [], ◌∷◌, ◌++◌, length, map, filter, take, drop, reverse, Some, None, Result, Ok, Err, refl, sym, ap, subst, ◌≤◌, ◌∙◌, append_assoc, append-nil, arith}
-use Rattle.std.proofs.lemmas.List.{reverse-append, reverse-reverse, nil_from_length, length-map}
+use Rattle.std.proofs.Common.{zero, suc, ◌<◌, get_or, ◌≡◌, ℕ, ◌+◌, Bool, true, false, not, ◌||◌, cond, List, [], ◌∷◌, ◌++◌, length, map, filter, take, drop, reverse, Some, None, Result, Ok, Err, refl, sym, ap, subst, ◌≤◌, ◌∙◌, append_assoc, arith}
+use Rattle.std.proofs.lemmas.List.{reverse-append, reverse-reverse, length-map}
 use Rattle.std.proofs.lemmas.List.Quantifiers.{position-Some}
 use Rattle.std.proofs.lemmas.Bool.{ltb-false}
 use Rattle.br_model.proofs.ListLaws.{holds_of_none, all_append}
@@ -30,13 +30,6 @@ pub found_more : (pattern : List ℕ) (items new : List (List ℕ × Bool)) (res
 found_more pattern items new rest left pair more flag others total h is_rest is_left is_new =
     ap (λ is. is ++ found_in pattern more others) is_new ∙ append_assoc items (cond (matches pattern (last_component pair.0.now)) ((pair.0.now, flag) ∷ []) []) (found_in pattern more others)
     ∙ ap (λ r. items ++ found_in pattern r (flag ∷ others)) (sym is_rest) ∙ ap (λ fs. items ++ found_in pattern rest fs) (sym is_left) ∙ h
-
--- nothing is left
-pub kept_all : (items : List Pair) (rest : List Pair) (left : List Bool) (total : List Pair) → items ++ kept rest left ≡ total → length rest ≡ 0 → items ≡ total
-kept_all items rest left total h none = sym (append-nil items) ∙ ap (λ r. items ++ kept r left) (sym (nil_from_length rest none)) ∙ h
-
-pub found_all : (pattern : List ℕ) (items : List (List ℕ × Bool)) (rest : List Pair) (left : List Bool) (total : List (List ℕ × Bool)) → items ++ found_in pattern rest left ≡ total → length rest ≡ 0 → items ≡ total
-found_all pattern items rest left total h none = sym (append-nil items) ∙ ap (λ r. items ++ found_in pattern r left) (sym (nil_from_length rest none)) ∙ h
 
 -- ---- what they are
 

@@ -1,15 +1,12 @@
 -- Flags that are set from a place to another.
 use Rattle.std.proofs.Common.{◌≡◌, ◌≤◌, ◌+◌, ◌-◌, ℕ, zero, suc, Bool, true, false, cond, List, [], ◌∷◌, ◌++◌, length, take, drop, replicate, min, zero-add, refl, sym, ap, ◌∙◌, append_assoc, take-append-drop, arith}
-use Rattle.std.proofs.lemmas.List.Sums.{sum_by-append, sum_by-cons, count_by-le-length}
+use Rattle.std.proofs.lemmas.List.Sums.{sum_by-cons, count_by-le-length}
 use Rattle.std.proofs.lemmas.List.{drop-drop}
 use Rattle.std.specs.Prelude.{count_by}
 use Rattle.br_tree.specs.Sums.{set_in, painted, repainted, moved}
 use Rattle.br_tree.specs.Walk.{differs}
 
 -- ---- the number of set flags
-
-pub set_in-append : (fs gs : List Bool) → set_in (fs ++ gs) ≡ set_in fs + set_in gs
-set_in-append fs gs = sum_by-append (λ f. cond f 1 0) fs gs
 
 pub set_in-le : (fs : List Bool) → set_in fs ≤ length fs
 set_in-le fs = count_by-le-length (λ f. f) fs

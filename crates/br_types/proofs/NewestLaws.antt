@@ -125,18 +125,6 @@ noted before after key on known looked news puts path = btree_map_updates_str on
         let is_new : is_news (kept_at path before) key ≡ true = ap (λ (q : List ℕ). is_news (kept_at q before) key) (sym same) ∙ ap (λ o. is_news o key) (sym looked) ∙ news in
         sym (ap (λ b. cond b (Some key) (kept_at path before)) is_new)
 
--- one that is older changes nothing
-pub not_noted : (before : Kept) (key : FileKey) (on : List ℕ) (known : Option FileKey) → known ≡ kept_at on before → is_news known key ≡ false
-    → Keeps before (record { key = key; path = on }) before
-not_noted before key on known looked news path = go (bytes_eq on path) refl
-  where
-    go : (b : Bool) → bytes_eq on path ≡ b → kept_at path before ≡ cond (b && is_news (kept_at path before) key) (Some key) (kept_at path before)
-    go false is = refl
-    go true is =
-        let same : on ≡ path = (bytes_eq-Decides on path).0 is in
-        let is_old : is_news (kept_at path before) key ≡ false = ap (λ (q : List ℕ). is_news (kept_at q before) key) (sym same) ∙ ap (λ o. is_news o key) (sym looked) ∙ news in
-        sym (ap (λ b. cond b (Some key) (kept_at path before)) is_old)
-
 -- a set that keeps one copy more is noted with it
 pub noted_more : (before after : Kept) (c : Copy) → Keeps before c after → (copies : List Copy)
     → ((path : List ℕ) → IsNewestAt copies path (kept_at path before)) → (path : List ℕ) → IsNewestAt (c ∷ copies) path (kept_at path after)

@@ -82,12 +82,6 @@ one_appended volume bytes earlier later is name =
     ] refl (is name)
     ∙ ap (λ (bs : List ℕ). bytes_of_volume earlier name ++ bs) (sym (for_one volume bytes name))
 
--- one block after others
-pub one_more_appended : (blocks : List (List ℕ × List ℕ)) (volume bytes : List ℕ) (first second third : List Volume)
-    → AreAppended blocks first second → IsAppended volume bytes second third → AreAppended (blocks ++ (volume, bytes) ∷ []) first third
-one_more_appended blocks volume bytes first second third some one =
-    both_appended blocks ((volume, bytes) ∷ []) first second third some (one_appended volume bytes second third one)
-
 -- blocks in turn
 turn_appends : (blocks : List (List ℕ × List ℕ)) (earlier later : List Volume) → AreAppendedInTurn blocks earlier later → AreAppended blocks earlier later
 turn_appends [] earlier later same = rw same (none_appended earlier)
