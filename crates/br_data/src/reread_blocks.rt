@@ -30,17 +30,15 @@ pub struct Again {
 }
 
 impl Model for Again {
-    ghost use Rattle.std.specs.Prelude.{◌≡◌, IfSome, Ok, Option, option_map};
-    ghost use Rattle.br_model.specs.Block.{fragments_of, read_block};
-    ghost use Rattle.br_data.specs.DataSpans.{AreDataIn};
+    ghost use Rattle.std.specs.Prelude.{IfSome, Option, option_map};
+    ghost use Rattle.br_data.specs.DataSpans.{IsCutAt};
     ghost use Rattle.br_data.specs.KnownBlocks as model;
 
     ghost Value = { Option model.KnownBlock };
 
     ghost view = { λ a. option_map (λ k. record { volume = k.0; address = k.1; bytes = a.bytes.items }) a.known };
 
-    ghost invariant = { λ a. IfSome a.known (λ _. (read_block a.bytes.items ≡ Ok a.bytes.items)
-        × AreDataIn a.bytes.items a.spans.items (fragments_of a.bytes.items)) };
+    ghost invariant = { λ a. IfSome a.known (λ _. IsCutAt a.bytes.items a.spans.items) };
 }
 
 impl Again {

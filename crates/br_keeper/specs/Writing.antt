@@ -1,5 +1,6 @@
 -- Blocks that are appended to volumes with vouched lengths.
-use Rattle.std.specs.Prelude.{◌≡◌, ℕ, ◌≤◌, ◌⊎◌, Bool, true, false, List, ◌∷◌, ◌++◌, length, fold, bytes_eq, Option, Some, None, Result, Ok, Err, ⊤}
+use Rattle.std.specs.Prelude.{◌≡◌, ℕ, ◌≤◌, ◌⊎◌, Bool, true, false, List, ◌∷◌, ◌++◌, length, fold, bytes_eq, Option, Some, None, Result, Ok, Err, OnOk, Vec, ⊤}
+use Rattle.std.specs.Global.{Global}
 use Rattle.std.specs.List.{AllByRecursion, list_any}
 use Rattle.br_model.specs.Job.{Span}
 use Rattle.br_model.specs.Volume.{Volume}
@@ -163,6 +164,11 @@ is_on_any spans volume = list_any (λ (s : Span). bytes_eq s.volume volume) span
 abbrev pub AreDurable : List Span → Option (List Volume) → Option (List Volume) → Type 0
 AreDurable spans told durable = AllByRecursion (λ (s : Span). IsDurableIn told durable s.volume) spans
 
+-- if the volumes of the spans are durable, then after `Ok` this volume is durable too
+abbrev pub SyncsAfter : {W : Type 0} → (W → Option (List Volume)) → (W → Option (List Volume)) → List Span → List ℕ → W → W → Result (Unit {0}) KeeperFault → Type 0
+SyncsAfter holds durable spans volume old new result =
+    AreDurable spans (holds old) (durable old) → OnOk result (IsDurableIn (holds new) (durable new) volume)
+
 -- ---- all of it
 
 -- the volumes with entries for these
@@ -211,6 +217,6 @@ WritesBlocks starts blocks spans old new (Err StoredNotPublished) = ⊥
 WritesBlocks starts blocks spans old new (Err BadCatalogue) = ⊥
 
 -- the same, for a store of volumes before and after
-abbrev pub WritesBlocksTo : {W : Type 0} → (W → Option (List Volume)) → (W → Failures) → List (List ℕ × ℕ) → List (List ℕ × List ℕ) → List Span → W → W → List Vouch → List Vouch → Result (Unit {0}) KeeperFault → Type 0
+abbrev pub WritesBlocksTo : {W : Type 0} → (W → Option (List Volume)) → (W → Failures) → List (List ℕ × ℕ) → List (List ℕ × List ℕ) → List Span → W → W → Vec Vouch Global → Vec Vouch Global → Result (Unit {0}) KeeperFault → Type 0
 WritesBlocksTo holds failures starts blocks spans old new before after result =
-    WritesBlocks starts blocks spans (shelf_in holds failures old before) (shelf_in holds failures new after) result
+    WritesBlocks starts blocks spans (shelf_in holds failures old before.items) (shelf_in holds failures new after.items) result

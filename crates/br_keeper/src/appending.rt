@@ -1,8 +1,8 @@
 //! Appends the blocks of a session to volumes.
 ghost use Rattle.std.specs.Prelude.{◌≡◌, ◌≤◌, OnOk};
 ghost use Rattle.br_history.specs.Preparing.{seen};
-ghost use Rattle.br_volume.specs.Store.{IsDurableIn, Lasts};
-ghost use Rattle.br_keeper.specs.Writing.{AppendsAllTo, AreDurable, ChecksVolume, ChecksVolumes, SyncsAllTo, SyncsOneTo, WritesBlocksTo, is_on_any};
+ghost use Rattle.br_volume.specs.Store.{Lasts};
+ghost use Rattle.br_keeper.specs.Writing.{AppendsAllTo, AreDurable, ChecksVolume, ChecksVolumes, SyncsAfter, SyncsAllTo, SyncsOneTo, WritesBlocksTo, is_on_any};
 
 use crate::fault::KeeperFault;
 use crate::vouched_lengths::{Vouch, enter, grow, is_retired, retire};
@@ -94,8 +94,7 @@ fn sync_one<W: VolumeStore>(
     vol: &VolName,
 ) -> Result<(), KeeperFault>
     ensures synced { SyncsOneTo W.holds W.failures vol.now volumes.old volumes.new vouches.old vouches.new result }
-    ensures durable { AreDurable before.now (W.holds volumes.old) (W.durable volumes.old)
-        → OnOk result (IsDurableIn (W.holds volumes.new) (W.durable volumes.new) vol.now) }
+    ensures durable { SyncsAfter W.holds W.durable before.now vol.now volumes.old volumes.new result }
     ensures same { W.holds volumes.new ≡ W.holds volumes.old }
     ensures lasts { Lasts (W.durable volumes.old) (W.durable volumes.new) }
 {
@@ -140,7 +139,7 @@ pub(crate) fn write_blocks<W: VolumeStore>(
     blocks: &[(VolName, Vec<u8>)],
 ) -> Result<(), KeeperFault>
     ensures written { WritesBlocksTo W.holds W.failures starts.now (seen blocks.now) rows.now.spans volumes.old volumes.new
-        vouches.old.items vouches.new.items result }
+        vouches.old vouches.new result }
     ensures durable { OnOk result (AreDurable rows.now.spans (W.holds volumes.new) (W.durable volumes.new)) }
     ensures lasts { Lasts (W.durable volumes.old) (W.durable volumes.new) }
 {
