@@ -1,5 +1,4 @@
-ghost use Rattle.std.specs.Prelude.{◌≡◌, ◌+◌, ◌<◌, ◌≤◌, [], ◌∷◌, ◌++◌, IfSome, MatchOption, OnOk, codes, flat_map, length, position};
-ghost use Rattle.br_model.specs.Text.{is_space};
+ghost use Rattle.std.specs.Prelude.{◌≡◌, ◌+◌, ◌<◌, ◌≤◌, [], ◌∷◌, ◌++◌, MatchOption, OnOk, codes, flat_map, length};
 ghost use Rattle.br_cli_common.specs.RefusalText.{field_text, heading_text, is_break, refusal_text, word_len, wrapped};
 
 use crate::refusal::Refusal;
@@ -12,21 +11,13 @@ const MAX_COLUMN: usize = 79;
 /// The column at which the words of a field begin.
 const FIRST_COLUMN: usize = 9;
 
-/// Returns the place of the first space.
-fn space_in(text: &[u8]) -> Option<usize>
-    ensures place { result ≡ position is_space text.now }
-    ensures inside { IfSome result (λ at. at < length text.now) }
-{
-    place_of(text, b' ')
-}
-
 /// Returns the number of bytes before the first space.
 #[tactic(auto, unfolding(crate::specs::RefusalText::word_len))]
 fn first_word_len(text: &[u8]) -> usize
     ensures len { result ≡ word_len text.now }
     ensures at_most { result ≤ length text.now }
 {
-    match space_in(text) {
+    match place_of(text, b' ') {
         Some(at) => at,
         None => text.len(),
     }

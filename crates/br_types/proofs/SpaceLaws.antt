@@ -1,11 +1,10 @@
--- The first byte of a kind, and the first space of a text.
+-- The first byte of a kind.
 use Rattle.std.proofs.Common.{◌≡◌, ◌∙◌, ◌==◌, ℕ, cond, List, length, Option, Some, None, refl, sym, arith}
 use Rattle.std.specs.Prelude.{◌<◌, IfSome, nat_lt, position}
 use Rattle.std.specs.List.{position_or_len}
 use Rattle.std.proofs.lemmas.Bool.{le-ltb, lt-ltb, false_from_ne_true}
 use Rattle.std.proofs.lemmas.List.Sums.{position_or_len_is}
 use Rattle.bstr.specs.Find.{IsFirstByte, is_byte}
-use Rattle.br_model.specs.Text.{is_space}
 
 placed : (end : ℕ) (text : List ℕ) (k : ℕ) → position_or_len (λ c. c == end) text ≡ k
     → position (λ c. c == end) text ≡ cond (nat_lt k (length text)) (Some k) None
@@ -26,7 +25,3 @@ first_place end text (Some k) found =
 pub first_within : (end : ℕ) (text : List ℕ) (r : Option ℕ) → IsFirstByte (is_byte end) text r → IfSome r (λ k. k < length text)
 first_within end text None never = tt
 first_within end text (Some k) found = found.0.high
-
--- the first space that `find_byte` finds
-pub first_space : (text : List ℕ) (r : Option ℕ) → IsFirstByte (is_byte 32) text r → r ≡ position is_space text
-first_space text r found = first_place 32 text r found

@@ -1,28 +1,20 @@
-ghost use Rattle.std.specs.Prelude.{◌≡◌, position};
+ghost use Rattle.std.specs.Prelude.{◌≡◌};
 ghost use Rattle.br_model.specs.Answer.{Answers, some_or};
-ghost use Rattle.br_model.specs.Text.{is_space};
 ghost use Rattle.br_types.specs.LineFault.{line_cause, of_hex_fault};
 ghost use Rattle.br_types.specs.DecimalSpelling.{IsCut, bytes_spelled, pairs_read};
 
+use crate::bytes::place_of;
 use crate::hexadecimal::has_capital;
 use crate::line_fault::LineFault;
-use bstr::ByteSlice;
 use hex::FromHexError;
 use std::alloc::Global;
-
-/// Returns the place of the first space.
-fn space_in(text: &[u8]) -> Option<usize>
-    ensures { result ≡ position is_space text.now }
-{
-    text.find_byte(b' ')
-}
 
 /// Returns the text before the first space and, if there is a space, the text after it.
 #[tactic(auto, unfolding(crate::specs::DecimalSpelling::fields_of))]
 pub fn cut(text: &[u8]) -> (&[u8], Option<&[u8]>)
     ensures { IsCut text.now result.0.now result.1 }
 {
-    match space_in(text) {
+    match place_of(text, b' ') {
         Some(at) => (&text[..at], Some(&text[at + 1..])),
         None => (text, None),
     }
