@@ -10,13 +10,10 @@ ghost use Rattle.br_attr.specs.Path.{path_or_fault};
 use crate::fault::AttrFault;
 use crate::stat::Stat;
 use br_model::attributes_read_back;
-use br_types::{FileIndex, Path, place_of};
+use br_types::{FileIndex, MAX_INDEX, Path, place_of};
 use itoa::Buffer;
 use std::alloc::{AllocError, Global};
 use std::marker::Model;
-
-/// The greatest index and the greatest type: 2^31 - 1.
-const GREATEST: u32 = 2_147_483_647;
 
 /// Returns the text before the first byte `end`, and the text after it.
 #[tactic(auto, unfolding(br_model::specs::Attribute::field))]
@@ -50,7 +47,7 @@ fn read_positive(text: &[u8]) -> Result<u32, AttrFault>
     ensures in_range { IfOk result (λ n. (1 ≤ n) × (n < 2 ^ 31)) }
 {
     let number = decimal_of(text).ok_or(AttrFault::BadNumber)?;
-    if 1 <= number && number <= GREATEST {
+    if 1 <= number && number <= MAX_INDEX {
         Ok(number)
     } else {
         Err(AttrFault::BadNumber)

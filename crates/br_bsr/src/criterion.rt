@@ -21,7 +21,7 @@ pub enum Criterion {
 const MAX_U32: u64 = 4_294_967_295;
 
 /// The greatest index of a file, and the greatest stream: 2^31 - 1.
-const MAX_INDEX: u64 = 2_147_483_647;
+pub const MAX_INDEX: u64 = 2_147_483_647;
 
 /// The greatest address of a volume: 2^63 - 1.
 const MAX_ADDRESS: u64 = 9_223_372_036_854_775_807;

@@ -16,7 +16,7 @@ use br_types::{NameFault, VolName, trimmed};
 use std::alloc::Global;
 
 /// The greatest number of bytes of a line, without its end.
-const MAX_LINE: usize = 4096;
+pub const MAX_LINE: usize = 4096;
 
 /// The statement of a line: nothing that selects, the volume of a new group, or ranges of a
 /// criterion.

@@ -2,20 +2,17 @@
 ghost use Rattle.std.specs.Prelude.{◌≡◌, sum_by, IfOk};
 ghost use Rattle.br_cli_target.specs.AbsentCount.{absent, capped, size_of};
 
-use br_bsr::Group;
+use br_bsr::{Group, MAX_INDEX};
 use br_piece::{Gap, missing};
 use br_types::FileKey;
 use std::alloc::{AllocError, Global};
-
-/// The greatest index that a file can have.
-const GREATEST_INDEX: u64 = 2_147_483_647;
 
 /// Returns the number of indexes of a run; 0 if it goes up to the greatest index, since such a
 /// range asks for all files from its first on, whatever their number.
 fn size_of(gap: Gap) -> u64
     ensures { result ≡ capped (size_of gap) }
 {
-    if gap.indexes.high < GREATEST_INDEX {
+    if gap.indexes.high < MAX_INDEX {
         gap.indexes
             .high
             .saturating_sub(gap.indexes.low)

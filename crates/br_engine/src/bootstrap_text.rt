@@ -7,11 +7,9 @@ ghost use Rattle.br_engine.specs.BootstrapText.{GrowsAsRead, GrowsBy, ReadsAs, S
 
 use crate::fault::ExtractFault;
 use crate::turns::Turns;
+use br_bsr::MAX_LINE;
 use std::alloc::Global;
 use std::io::{ErrorKind, Read};
-
-/// The number of bytes in the longest line of a bootstrap, without its end.
-const MAX_LINE: usize = 4096;
 
 /// The number of bytes without LF that make a line too long whatever follows. The last byte of a
 /// line may be a CR that belongs to its end.

@@ -2,12 +2,9 @@ ghost use Rattle.std.specs.Prelude.{◌≡◌, IfOk};
 ghost use Rattle.br_model.specs.Job.{is_file_row};
 
 use br_attr::Stat;
-use br_types::{JobId, Letter, Name, Path, SessionKey};
+use br_types::{JobId, Letter, MAX_INDEX, Name, Path, SessionKey};
 use std::alloc::{AllocError, Global};
 use std::marker::Model;
-
-/// The greatest index of a file in its job: 2^31 - 1.
-const MAX_INDEX: u32 = 2_147_483_647;
 
 /// A job's own row: the columns of Job that are used here, with the names of its client and its file set.
 #[derive(Debug, Drop)]

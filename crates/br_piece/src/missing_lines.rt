@@ -7,12 +7,9 @@ ghost use Rattle.br_piece.specs.NearRanges.{AreSorted};
 
 use crate::file_counts::got_of;
 use crate::lacking::{Gap, missing_of};
-use br_bsr::{Group, Range, push_range};
+use br_bsr::{Group, MAX_INDEX, Range, push_range};
 use br_types::{FileKey, push_escaped, push_number, push_wide};
 use std::alloc::{AllocError, Global};
-
-/// The greatest index that a file can have.
-const GREATEST_INDEX: u64 = 2_147_483_647;
 
 /// Appends ranges, each after a comma.
 fn push_next(text: &mut Vec<u8>, ranges: &[Range]) -> Result<(), AllocError>
@@ -78,7 +75,7 @@ fn push_line_of(text: &mut Vec<u8>, groups: &[Group], gap: Gap) -> Result<(), Al
 fn push_gap(text: &mut Vec<u8>, groups: &[Group], gap: Gap) -> Result<(), AllocError>
     ensures { OnOk result (text.new.items ≡ text.old.items ++ gap_text groups.now gap) }
 {
-    if gap.indexes.high < GREATEST_INDEX {
+    if gap.indexes.high < MAX_INDEX {
         push_line_of(text, groups, gap)
     } else {
         Ok(())

@@ -26,8 +26,8 @@ pub use outline::{Outline, Sketch, sketches_of};
 pub use record_data::GREATEST_LEN;
 pub use sorted_hits::{around, settle};
 pub use streams::{
-    ATTRIBUTES, DATA, DIGEST, checks_digest, count_in, first_in, has_bytes, has_sparse_data,
-    refuse_unsupported, skipped_in,
+    ATTRIBUTES, DATA, DIGEST, SPARSE_DATA, checks_digest, count_in, first_in, has_bytes,
+    has_sparse_data, refuse_unsupported, skipped_in,
 };
 
 /// States that a file has its outline. If there is no file, there is no outline for the same

@@ -19,7 +19,7 @@ pub const DIGEST: u32 = 3;
 
 /// The stream of sparse data: an address of eight bytes, the most significant first, and the bytes
 /// at this address.
-pub(crate) const SPARSE_DATA: u32 = 6;
+pub const SPARSE_DATA: u32 = 6;
 
 /// The stream of the data's SHA-1 digest, which is skipped.
 const SHA1_DIGEST: u32 = 10;

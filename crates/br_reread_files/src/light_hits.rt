@@ -2,10 +2,7 @@
 ghost use Rattle.std.specs.Prelude.{◌≡◌};
 
 use br_match::Hit;
-use br_reread_parts::DATA;
-
-/// The stream of sparse data.
-pub(crate) const SPARSE_DATA: u32 = 6;
+use br_records::{DATA, SPARSE_DATA};
 
 /// Drops the data of a hit if they are bytes of a file.
 fn lighten(hit: &mut Hit)

@@ -10,11 +10,10 @@ ghost use Rattle.br_reread_parts.specs.FileParts.{GivesFile, PutsAlike};
 ghost use Rattle.br_reread_files.specs.FileParts.{GivesItem};
 
 use crate::files_once_more::item_once_more;
-use crate::light_hits::SPARSE_DATA;
 use br_data::{AgainFault, OverMany};
 use br_join::Item;
 use br_match::Hit;
-use br_records::around;
+use br_records::{SPARSE_DATA, around};
 use br_sink::{PartsFault, Sink};
 use br_types::FileKey;
 use br_volume::Drive;

@@ -9,10 +9,10 @@ ghost use Rattle.br_reread_parts.specs.FileParts.{WritesFew};
 ghost use Rattle.br_reread_parts.specs.Given.{GivesHit, GivesHits};
 ghost use Rattle.br_reread_parts.specs.Windows.{AppendsPlain, data_bytes};
 
-use crate::streams::DATA;
 use crate::windows::push_data;
 use br_data::{AgainFault, Data, OverMany, standing_stays, write_bytes};
 use br_match::Hit;
+use br_records::DATA;
 use br_sink::PartsFault;
 use br_volume::Drive;
 use std::alloc::Global;

@@ -7,12 +7,10 @@ mod file_parts;
 mod file_windows;
 mod likeness;
 mod putting;
-mod streams;
 mod two_parts;
 mod windows;
 
 pub use both::PlainFile;
 pub use likeness::are_alike;
 pub use putting::{put_plain, put_two_plain};
-pub use streams::DATA;
 pub use windows::{Cut, DIGESTED, cut_window, digest_window, push_data};

@@ -50,6 +50,6 @@ pub use name::{Name, VolName};
 pub use names::Names;
 pub use newest::NewestCopies;
 pub use newest_laws::{newest_has_each_path, newest_has_each_path_once, planned_are_newest};
-pub use number::{FileIndex, JobId, Letter};
+pub use number::{FileIndex, JobId, Letter, MAX_INDEX};
 pub use path::{Path, is_path_of};
 pub use wanted::{Copies, Gaps, Start, Stops, Wanted};

@@ -4,7 +4,7 @@ ghost use Rattle.br_model.specs.Name.{is_letter};
 use std::marker::Model;
 
 /// The greatest index of a file in its session: 2^31 - 1.
-const MAX_INDEX: u32 = 2_147_483_647;
+pub const MAX_INDEX: u32 = 2_147_483_647;
 
 /// The number of a file in its session: from 1 to 2^31 - 1.
 #[derive(Clone, Copy, Debug, PartialEq, Eq, PartialOrd, Ord)]
