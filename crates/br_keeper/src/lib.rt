@@ -20,7 +20,7 @@
 //! published list. They name the catalogue by the trait `JobStore`, and the volumes by
 //! `VolumeStore`. A session knows a beginning of the published list, and a snapshot is the jobs
 //! before the list and then a beginning of it. `Catalogue` opens a `JobStore` by the path
-//! of a file.
+//! of a file; `MemJobs` is one in memory.
 #![tactic(auto)]
 
 mod appending;
@@ -31,6 +31,7 @@ mod fault;
 mod job_store;
 mod keeper;
 mod laws;
+mod mem_jobs;
 mod prepared;
 mod published;
 mod publisher;
@@ -47,5 +48,6 @@ pub use keeper::Keeper;
 pub use laws::{
     commits_outlast, commits_stand, crashes_leave_jobs, held_volumes_are_whole, receipts_are_shown,
 };
+pub use mem_jobs::MemJobs;
 pub use publisher::Publisher;
 pub use sessions::{Receipt, Session, Snapshot};

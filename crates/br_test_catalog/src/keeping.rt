@@ -1,11 +1,10 @@
 //! The results of a keeper in memory, what a session sees meanwhile, and what is left on the
 //! volumes and in the catalogue.
 
-use crate::mem_jobs::MemJobs;
 use crate::mem_volumes::MemVolumes;
 use crate::saved_jobs::job_of;
-use br_history::{History, JobRows};
-use br_keeper::{Keeper, KeeperFault, Receipt, Session};
+use br_history::JobRows;
+use br_keeper::{Keeper, KeeperFault, MemJobs, Receipt, Session};
 use br_test_support::Case;
 use br_types::VolName;
 use br_volume::MemStore;
@@ -151,10 +150,7 @@ fn volumes_of(case: &mut Case, failure: &str) -> MemVolumes {
 pub(crate) fn run<R: Wait>(rt: &R, case: &mut Case, failure: &str, steps: &[&str]) {
     let alloc = case.alloc();
     let volumes = volumes_of(case, failure);
-    let catalogue = MemJobs {
-        alloc,
-        history: History::new(alloc),
-    };
+    let catalogue = MemJobs::new(alloc);
     match Keeper::new(rt, alloc, catalogue, volumes, 16) {
         Ok((mut keeper, mut sessions)) => {
             let session = match sessions.pop() {

@@ -5,7 +5,6 @@
 
 mod files;
 mod keeping;
-mod mem_jobs;
 mod mem_volumes;
 mod plans;
 mod saved_jobs;

@@ -2,11 +2,10 @@
 ghost use Rattle.std.specs.Prelude.{◌≡◌, IfSome};
 
 use crate::keeping::MemKeeper;
-use crate::mem_jobs::MemJobs;
 use crate::mem_volumes::MemVolumes;
 use crate::saved_jobs::job_of;
 use br_history::History;
-use br_keeper::{Keeper, Session};
+use br_keeper::{Keeper, MemJobs, Session};
 use br_plan::{Plan, PlanFault, Request};
 use br_test_support::Case;
 use br_types::{Name, Path};
@@ -110,10 +109,7 @@ pub(crate) fn run<R: Wait>(rt: &R, case: &mut Case, moment: &str, jobs: &[&str])
     let alloc = case.alloc();
     let moment = case.u64_of(moment);
     let volumes = MemVolumes::new(MemStore::new(alloc), 0, 0);
-    let catalogue = MemJobs {
-        alloc,
-        history: History::new(alloc),
-    };
+    let catalogue = MemJobs::new(alloc);
     match Keeper::new(rt, alloc, catalogue, volumes, 1) {
         Ok((mut keeper, mut sessions)) => {
             if let Some(session) = sessions.pop() {

@@ -4,11 +4,10 @@ ghost use Rattle.std.specs.Prelude.{◌≡◌, ◌<◌, [], IfSome};
 ghost use Rattle.br_keeper.specs.Sessions.{AllKnow};
 
 use crate::keeping::MemKeeper;
-use crate::mem_jobs::MemJobs;
 use crate::mem_volumes::MemVolumes;
 use crate::saved_jobs::numbered;
-use br_history::{History, JobRows};
-use br_keeper::{Ask, Keeper, Naming, Reply, SavedJob, Session, serve};
+use br_history::JobRows;
+use br_keeper::{Ask, Keeper, MemJobs, Naming, Reply, SavedJob, Session, serve};
 use br_test_support::Case;
 use br_volume::MemStore;
 use crossbeam_channel::{Sender, bounded, unbounded};
@@ -250,10 +249,7 @@ pub(crate) fn run<R: Threads + Wait + Copy + Send + 'static>(
     watchers: u32,
 ) {
     let alloc = case.alloc();
-    let catalogue = MemJobs {
-        alloc,
-        history: History::new(alloc),
-    };
+    let catalogue = MemJobs::new(alloc);
     let sessions = if watchers < 15 { watchers + 2 } else { 16 };
     let volumes = MemVolumes::new(MemStore::new(alloc), 0, 0);
     match Keeper::new(&rt, alloc, catalogue, volumes, sessions) {

@@ -1,13 +1,21 @@
 //! The state after a call, and what a keeper leaves.
-use crate::copied_jobs::{CopiedJobs, Kept};
 use br_history::JobRows;
-use br_keeper::{Keeper, KeeperFault, Receipt, Session};
+use br_keeper::{Keeper, KeeperFault, MemJobs, Receipt, Session};
 use br_types::VolName;
 use br_volume::MemStore;
 use md5::{Digest, Md5};
+use std::alloc::Global;
 use std::io;
 
-pub(crate) type MemKeeper = Keeper<CopiedJobs, MemStore>;
+pub(crate) type MemKeeper = Keeper<MemJobs, MemStore>;
+
+/// What a keeper works on, and leaves behind.
+pub(crate) type Kept = (MemJobs, MemStore);
+
+/// Returns a catalogue without jobs and a store without volumes.
+pub(crate) fn new_kept(alloc: Global) -> Kept {
+    (MemJobs::new(alloc), MemStore::new(alloc))
+}
 
 /// Returns the name of a volume.
 fn name_of(vol: &VolName) -> &str {

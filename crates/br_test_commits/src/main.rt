@@ -2,13 +2,12 @@
 //! `acceptance/keeping.py` runs it with each of its requests for memory refused in turn.
 #![tactic(auto)]
 
-mod copied_jobs;
 mod job_drafts;
 mod keeper_state;
 mod one_keeper;
 
-use crate::copied_jobs::new_kept;
 use crate::job_drafts::{FIRST, FOURTH, SECOND, THIRD};
+use crate::keeper_state::new_kept;
 use crate::one_keeper::{Deed, run};
 use std::io;
 

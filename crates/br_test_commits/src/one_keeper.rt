@@ -1,9 +1,8 @@
 //! A keeper with one caller.
 ghost use Rattle.std.specs.Prelude.{◌≡◌};
 
-use crate::copied_jobs::Kept;
 use crate::job_drafts::{Job, saved_job};
-use crate::keeper_state::{MemKeeper, tell_left, tell_receipt, tell_state};
+use crate::keeper_state::{Kept, MemKeeper, tell_left, tell_receipt, tell_state};
 use br_keeper::{Keeper, Session};
 use br_types::VolName;
 use std::io;

@@ -1,13 +1,28 @@
 //! A catalogue in memory.
+use crate::job_store::{JobStore, JobStoreFault};
 use br_history::{History, JobRows};
-use br_keeper::{JobStore, JobStoreFault};
 use std::alloc::Global;
 
-/// Jobs in memory.
+/// A catalogue in memory. It has copies of the jobs that it got.
 #[derive(Drop)]
-pub(crate) struct MemJobs {
-    pub(crate) alloc: Global,
-    pub(crate) history: History,
+pub struct MemJobs {
+    alloc: Global,
+    /// The jobs.
+    pub history: History,
+}
+
+impl MemJobs {
+    ghost use Rattle.std.specs.Prelude.{◌≡◌, []};
+
+    /// Makes a catalogue without jobs.
+    pub fn new(alloc: Global) -> MemJobs
+        ensures { result.history ≡ [] }
+    {
+        MemJobs {
+            alloc,
+            history: History::new(alloc),
+        }
+    }
 }
 
 impl JobStore for MemJobs {
