@@ -19,8 +19,8 @@ abbrev pub moment : {D : Type 0} → Ghosts D → D → Moment
 moment drives state = record { shows = drives.shows state; failures = drives.failures state }
 
 -- what is shown from one state of a drive to another
-abbrev pub shown : {D : Type 0} → Ghosts D → D → D → Shown
-shown drives before after = record { earlier = moment drives before; later = moment drives after }
+abbrev pub shown_between : {D : Type 0} → Ghosts D → D → D → Shown
+shown_between drives before after = record { earlier = moment drives before; later = moment drives after }
 
 -- from one moment to the other the volumes only grow, and no failure is forgotten
 pub record ComesLater (earlier later : Moment) : Type 0 where

@@ -3,7 +3,7 @@ ghost use Rattle.std.specs.Prelude.{◌≡◌, ◌≤◌, OnOk};
 ghost use Rattle.br_model.specs.Meaning.{pieces_of};
 ghost use Rattle.br_volume.specs.Drive.{OnlyGrows};
 ghost use Rattle.br_check.specs.ChecksumPieces.{PieceOver, SumsOver};
-ghost use Rattle.br_check.specs.Shown.{shown};
+ghost use Rattle.br_check.specs.Shown.{shown_between};
 
 use crate::checksum_lines::push_failed;
 use crate::checksum_walk::{AskedBlocks, ChecksumStep};
@@ -22,7 +22,7 @@ fn push_piece<D: Drive>(
     piece: &Piece,
     buf: &mut Vec<u8>,
 ) -> Result<(), AllocError>
-    ensures tells { OnOk result (PieceOver (shown D.Drive drive.old drive.new) piece.now text.old.items text.new.items) }
+    ensures tells { OnOk result (PieceOver (shown_between D.Drive drive.old drive.new) piece.now text.old.items text.new.items) }
     ensures grows { OnlyGrows (D.shows drive.old) (D.shows drive.new) }
     ensures counted { D.failures drive.old ≤ D.failures drive.new }
 {
@@ -44,7 +44,7 @@ fn push_pieces<D: Drive>(
     drive: &mut D,
     pieces: &[Piece],
 ) -> Result<(), AllocError>
-    ensures tells { OnOk result (SumsOver (shown D.Drive drive.old drive.new) pieces.now text.old.items text.new.items) }
+    ensures tells { OnOk result (SumsOver (shown_between D.Drive drive.old drive.new) pieces.now text.old.items text.new.items) }
     ensures grows { OnlyGrows (D.shows drive.old) (D.shows drive.new) }
     ensures counted { D.failures drive.old ≤ D.failures drive.new }
 {
@@ -73,7 +73,7 @@ pub fn push_checksums<D: Drive>(
     bootstrap: &Bootstrap,
     drive: &mut D,
 ) -> Result<(), AllocError>
-    ensures tells { OnOk result (SumsOver (shown D.Drive drive.old drive.new) (pieces_of bootstrap.now) text.old.items text.new.items) }
+    ensures tells { OnOk result (SumsOver (shown_between D.Drive drive.old drive.new) (pieces_of bootstrap.now) text.old.items text.new.items) }
     ensures grows { OnlyGrows (D.shows drive.old) (D.shows drive.new) }
     ensures counted { D.failures drive.old ≤ D.failures drive.new }
 {

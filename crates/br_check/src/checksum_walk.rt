@@ -106,7 +106,7 @@ pub(crate) struct AskedBlocks<'p> {
 
 impl<'p> AskedBlocks<'p> {
     ghost use Rattle.br_check.specs.AskedBlocks.{StepOver, groups_of, volume_of};
-    ghost use Rattle.br_check.specs.Shown.{shown};
+    ghost use Rattle.br_check.specs.Shown.{shown_between};
 
     /// Returns the blocks of a volume for which these groups ask.
     pub(crate) fn new(crc: &'p Crc, vol: &'p VolName, groups: &'p [(u32, Group)]) -> AskedBlocks<'p>
@@ -165,7 +165,7 @@ impl<'p> AskedBlocks<'p> {
         requires low { addr < 2 ^ 63 }
         requires sized { InLater (D.shows drive.now) (volume_of self.now) (λ bytes. HasSize bytes addr size) }
         ensures step { IfOk result
-            (StepOver (shown D.Drive drive.old drive.new) self.now addr text.old.items text.new.items) }
+            (StepOver (shown_between D.Drive drive.old drive.new) self.now addr text.old.items text.new.items) }
         ensures on { IfOk result (GoesOn addr) }
         ensures grows { OnlyGrows (D.shows drive.old) (D.shows drive.new) }
         ensures counted { D.failures drive.old ≤ D.failures drive.new }
@@ -190,7 +190,7 @@ impl<'p> AskedBlocks<'p> {
         buf: &mut Vec<u8>,
     ) -> Result<ChecksumStep, AllocError>
         ensures step { IfOk result
-            (StepOver (shown D.Drive drive.old drive.new) self.now addr text.old.items text.new.items) }
+            (StepOver (shown_between D.Drive drive.old drive.new) self.now addr text.old.items text.new.items) }
         ensures on { IfOk result (GoesOn addr) }
         ensures grows { OnlyGrows (D.shows drive.old) (D.shows drive.new) }
         ensures counted { D.failures drive.old ≤ D.failures drive.new }

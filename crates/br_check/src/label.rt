@@ -1,7 +1,7 @@
 //! The name in the label of a volume.
 ghost use Rattle.std.specs.Prelude.{◌≡◌, ◌⊎◌, ◌++◌, ◌≤◌, bytes_eq, drop, find, length, OnOk, option_map, take};
 ghost use Rattle.br_check.specs.Label as model;
-ghost use Rattle.br_check.specs.Shown.{shown};
+ghost use Rattle.br_check.specs.Shown.{shown_between};
 ghost use Rattle.br_check.specs.Label.{AppendsLabel, LabelsOver, is_label, line_by, named_line, other_line};
 ghost use Rattle.br_volume.specs.Drive.{OnlyGrows};
 ghost use Rattle.br_volume.specs.declared.fault.DriveFault.TheVariants.{Fault, UnknownVolume};
@@ -191,7 +191,7 @@ pub(crate) fn push_labels<D: Drive>(
     drive: &mut D,
 ) -> Result<(), AllocError>
     ensures tells { OnOk result
-        (LabelsOver (shown D.Drive drive.old drive.new) pieces.now text.old.items text.new.items) }
+        (LabelsOver (shown_between D.Drive drive.old drive.new) pieces.now text.old.items text.new.items) }
     ensures grows { OnlyGrows (D.shows drive.old) (D.shows drive.new) }
     ensures counted { D.failures drive.old ≤ D.failures drive.new }
 {

@@ -1,6 +1,6 @@
 //! The whole check.
 ghost use Rattle.std.specs.Prelude.{◌≡◌, ◌++◌, ◌∷◌, ◌≤◌, ◌*◌, ◌^◌, codes, decimal, flat_map, IfOk, map, OnOk};
-ghost use Rattle.br_check.specs.Shown.{shown};
+ghost use Rattle.br_check.specs.Shown.{shown_between};
 ghost use Rattle.br_check.specs.Check.{ChecksOver, IsChecked, checked_text, folder_lines, keys_of, lines_of, outlines_in};
 ghost use Rattle.br_check.specs.Findings.{bytes_in, bytes_of, files_at, files_in, memory_for};
 ghost use Rattle.br_check.specs.Search.{all_found, found_in};
@@ -247,7 +247,7 @@ pub fn check<D: Drive>(
     budget: u64,
     drive: &mut D,
 ) -> Result<Checked, AllocError>
-    ensures checked { IfOk result (ChecksOver (shown D.Drive drive.old drive.new) bootstrap.now counts.now budget) }
+    ensures checked { IfOk result (ChecksOver (shown_between D.Drive drive.old drive.new) bootstrap.now counts.now budget) }
     ensures grows { OnlyGrows (D.shows drive.old) (D.shows drive.new) }
 {
     let pieces = split(alloc, bootstrap)?;

@@ -5,7 +5,7 @@ ghost use Rattle.br_match.specs.Matching.{FoundOver};
 ghost use Rattle.br_match.specs.Walk.{NamesReached};
 ghost use Rattle.br_volume.specs.Drive.{OnlyGrows};
 ghost use Rattle.br_check.specs.Search.{AreSearched};
-ghost use Rattle.br_check.specs.Shown.{shown};
+ghost use Rattle.br_check.specs.Shown.{shown_between};
 
 use crate::light::append_light;
 use br_match::{Found, PieceFault, Walk};
@@ -56,7 +56,7 @@ pub(crate) fn search<D: Drive>(
     pieces: &[Piece],
     drive: &mut D,
 ) -> Result<Vec<Result<Found, PieceFault>>, AllocError>
-    ensures searched { IfOk result (λ results. AreSearched (shown D.Drive drive.old drive.new) pieces.now results.items) }
+    ensures searched { IfOk result (λ results. AreSearched (shown_between D.Drive drive.old drive.new) pieces.now results.items) }
     ensures grows { OnlyGrows (D.shows drive.old) (D.shows drive.new) }
     ensures counted { D.failures drive.old ≤ D.failures drive.new }
 {

@@ -9,7 +9,7 @@ use Rattle.br_check.specs.Check.{ChecksOver, checked_text}
 use Rattle.br_check.specs.declared.run.Checked.{Checked}
 use Rattle.br_bsr.specs.declared.fault.BsrFault.{BsrFault}
 use Rattle.br_check.specs.ChecksumPieces.{SumsOver}
-use Rattle.br_check.specs.Shown.{Shown, shown}
+use Rattle.br_check.specs.Shown.{Shown, shown_between}
 use Rattle.br_cli_common.specs.declared.options.Checksums.{Checksums}
 use Rattle.br_cli_common.specs.declared.options.Checksums.TheVariants.{Compared, Passed}
 use Rattle.br_engine.specs.Fault.{IsFree, fault_text}
@@ -33,10 +33,10 @@ pub record HasSums (s : Shown) (pieces : List Piece) (first checked : Checked) :
 -- what a check of a bootstrap finds over the drive for a restore that holds this number of bytes of
 -- data; then, if checksums are compared, the report about those
 abbrev pub ChecksFor : {D : Type 0} → Ghosts D → D → D → ReadBootstrap → ℕ → Checksums → Checked → Type 0
-ChecksFor drives earlier later read budget Passed checked = ChecksOver (shown drives earlier later) read.bootstrap read.counts.items budget checked
+ChecksFor drives earlier later read budget Passed checked = ChecksOver (shown_between drives earlier later) read.bootstrap read.counts.items budget checked
 ChecksFor {D} drives earlier later read budget Compared checked =
-    (between : D) × (first : Checked) × ChecksOver (shown drives earlier between) read.bootstrap read.counts.items budget first
-    × HasSums (shown drives between later) (pieces_of read.bootstrap) first checked
+    (between : D) × (first : Checked) × ChecksOver (shown_between drives earlier between) read.bootstrap read.counts.items budget first
+    × HasSums (shown_between drives between later) (pieces_of read.bootstrap) first checked
 
 -- The findings of a check of a bootstrap over the drive were appended to what the writer held, and
 -- the status is that of the findings. Else memory ran out, or the writer failed. If the text of the

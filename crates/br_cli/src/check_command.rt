@@ -5,7 +5,7 @@ ghost use Rattle.br_check.specs.Check.{checked_text};
 ghost use Rattle.br_engine.specs.Fault.{IsFree};
 ghost use Rattle.br_volume.specs.Drive.{OnlyGrows};
 ghost use Rattle.br_model.specs.Meaning.{pieces_of};
-ghost use Rattle.br_check.specs.Shown.{shown};
+ghost use Rattle.br_check.specs.Shown.{shown_between};
 ghost use Rattle.br_cli.specs.CheckCommand.{ChecksFor, ChecksTask, HasSums, checked_status, run_refusal, run_status};
 
 use crate::extract_command::{BootstrapFile, ExtractStartFault, refuse, report_stream};
@@ -48,7 +48,7 @@ fn with_checksums<D: Drive>(
     bootstrap: &Bootstrap,
     drive: &mut D,
 ) -> Result<Checked, AllocError>
-    ensures sums { IfOk result (HasSums (shown D.Drive drive.old drive.new) (pieces_of bootstrap.now) checked) }
+    ensures sums { IfOk result (HasSums (shown_between D.Drive drive.old drive.new) (pieces_of bootstrap.now) checked) }
     ensures grows { OnlyGrows (D.shows drive.old) (D.shows drive.new) }
 {
     let Checked {

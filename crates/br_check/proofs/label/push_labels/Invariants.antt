@@ -1,13 +1,13 @@
 use Rattle.std.proofs.Common.{◌≤◌, take}
 use Rattle.br_volume.specs.Drive.{OnlyGrows}
 use Rattle.br_check.specs.Label.{LabelsOver}
-use Rattle.br_check.specs.Shown.{shown}
+use Rattle.br_check.specs.Shown.{shown_between}
 use Rattle.br_check.proofs.label.push_labels.Given as goal
 
 -- what is said of the volumes of the pieces so far
 abbrev pub invariant-loop-piece : goal.invariant-loop-piece
 invariant-loop-piece g l = record {
-  tells : LabelsOver (shown g.D.Drive l.initial.drive l.drive) (take l.piece-index l.pieces) l.initial.text.items l.text.items;
+  tells : LabelsOver (shown_between g.D.Drive l.initial.drive l.drive) (take l.piece-index l.pieces) l.initial.text.items l.text.items;
   grows : OnlyGrows (g.D.Drive.shows l.initial.drive) (g.D.Drive.shows l.drive);
   counted : g.D.Drive.failures l.initial.drive ≤ g.D.Drive.failures l.drive;
 }

@@ -2,21 +2,21 @@ use Rattle.std.proofs.Common.{List, Option, ℕ, subst}
 use Rattle.std.proofs.lemmas.Result.{IfOk-weaker}
 use Rattle.br_volume.proofs.ExtendLaws.{grows_more}
 use Rattle.br_check.specs.Check.{ChecksOver}
-use Rattle.br_check.specs.Shown.{shown}
+use Rattle.br_check.specs.Shown.{shown_between}
 use Rattle.br_cli.proofs.check_command.checked_for.Goals as goal
 
 pub returns-in-Passed-clause-checked : goal.returns-in-Passed-clause-checked
 returns-in-Passed-clause-checked g c =
     rw c.in-Passed.is
     (subst
-    (λ (cs : List (Option ℕ)). ChecksOver (shown g.D.Drive c.args.drive.now c.check.new.drive) c.args.read.now.bootstrap cs c.args.budget c.in_ok-checked.checked)
+    (λ (cs : List (Option ℕ)). ChecksOver (shown_between g.D.Drive c.args.drive.now c.check.new.drive) c.args.read.now.bootstrap cs c.args.budget c.in_ok-checked.checked)
     c.deref.ensures.value c.in_ok-checked.ensures.checked)
 
 pub returns-in-Compared-clause-checked : goal.returns-in-Compared-clause-checked
 returns-in-Compared-clause-checked g c =
     let checks =
     subst
-    (λ (cs : List (Option ℕ)). ChecksOver (shown g.D.Drive c.args.drive.now c.check.new.drive) c.args.read.now.bootstrap cs c.args.budget c.in_ok-checked.checked)
+    (λ (cs : List (Option ℕ)). ChecksOver (shown_between g.D.Drive c.args.drive.now c.check.new.drive) c.args.read.now.bootstrap cs c.args.budget c.in_ok-checked.checked)
     c.deref.ensures.value c.in_ok-checked.ensures.checked in
     rw c.in-Compared.is
     (IfOk-weaker c.with_checksums.result _ _ (λ summed sums. (c.check.new.drive, c.in_ok-checked.checked, checks, sums)) c.with_checksums.ensures.sums)
