@@ -17,7 +17,7 @@ use Rattle.br_model.specs.Job.{JobRow, FileRow, Span, JobRows, are_rows, checked
 use Rattle.br_catalog_rows.specs.Decode.{job_row, span_row, file_row, read_job, read_span, read_file, small}
 use Rattle.br_catalog_rows.specs.Load.{read_all, is_of, is_read, has_job, by_job, put_span, by_number, read_rows, if_apart, read_loaded, read_history, check_first}
 use Rattle.br_catalog_rows.specs.Rows.{Rows, with_rows}
-use Rattle.br_catalog_rows.specs.Inserted.{rows_of, put_job, by_id, IsSpan, IsFile, IsWhole, IsNewIn, Adds, Tried, taken}
+use Rattle.br_catalog_rows.specs.Inserted.{rows_of, put_job, by_id, IsSpan, IsFileRow, IsWhole, IsNewIn, Adds, Tried, accepted}
 use Rattle.br_catalog_rows.proofs.ReadLaws.{small_ok, id_fits, job_ok, span_ok, file_ok}
 use Rattle.br_model.proofs.ListLaws.{none_pass}
 use Rattle.std.proofs.lemmas.List.{append-nil}
@@ -265,7 +265,7 @@ unfolding read_rows checked_rows
 whole_is_read spans files k w s f =
     let spans_read = ap (read_all read_span) s ∙ read_each read_span (span_row k.row.id) k.spans (weaken (λ (x : Span) (i : IsSpan x). span_ok k.row.id x i) k.spans w.spans) in
     let files_read = ap (read_all read_file) f
-    ∙ read_each read_file (file_row k.row.id) k.files (weaken (λ (x : FileRow) (i : IsFile x). file_ok k.row.id x i.index i.path i.lstat i.digest) k.files w.files) in
+    ∙ read_each read_file (file_row k.row.id) k.files (weaken (λ (x : FileRow) (i : IsFileRow x). file_ok k.row.id x i.index i.path i.lstat i.digest) k.files w.files) in
     rw (spans_read, files_read, numbered_stay 1 k.spans (are_numbered k w.fit), w.fit) refl
 
 versions_are : (jobs : List JobRows) → (rows_of jobs).versions ≡ (Int (pos 2) ∷ []) ∷ []
@@ -354,18 +354,18 @@ apart_from j jobs rows fresh are k h =
 abbrev pub IsReached : List JobRows → Rows → Type 0
 IsReached jobs rows = (rows ≡ rows_of jobs) × AllByRecursion IsWhole jobs × (no_pair clash jobs ≡ true)
 
-pub reached : (tries : List (JobRows × Bool)) (rows : Rows) → Tried tries rows → IsReached (taken tries) rows
-unfolding Tried taken rows_of no_pair
+pub reached : (tries : List (JobRows × Bool)) (rows : Rows) → Tried tries rows → IsReached (accepted tries) rows
+unfolding Tried accepted rows_of no_pair
 reached [] rows h = (h, tt, refl)
 reached ((j, was) ∷ tries) rows h = go was (reached tries h.0 h.1) h.2
   where
-    go : (b : Bool) → IsReached (taken tries) h.0 → MatchBool b (Adds j h.0 rows) (rows ≡ h.0) → IsReached (cond b (j ∷ taken tries) (taken tries)) rows
+    go : (b : Bool) → IsReached (accepted tries) h.0 → MatchBool b (Adds j h.0 rows) (rows ≡ h.0) → IsReached (cond b (j ∷ accepted tries) (accepted tries)) rows
     go true so adds =
-        let are : h.0.jobs ≡ map row_of (by_id (taken tries)) = ap (λ (r : Rows). r.jobs) so.0 ∙ jobs_are (taken tries) so.2 in
-        let none : list_any (clash j) (taken tries) ≡ false = sym (any_by_id (clash j) (taken tries)) ∙ none_clash j (by_id (taken tries)) (apart_from j (by_id (taken tries)) h.0 adds.fresh are) in
-        (adds.rows ∙ ap (with_rows j) so.0, (adds.whole, so.1), and_from (not (list_any (clash j) (taken tries))) (no_pair clash (taken tries)) (ap not none) so.2)
+        let are : h.0.jobs ≡ map row_of (by_id (accepted tries)) = ap (λ (r : Rows). r.jobs) so.0 ∙ jobs_are (accepted tries) so.2 in
+        let none : list_any (clash j) (accepted tries) ≡ false = sym (any_by_id (clash j) (accepted tries)) ∙ none_clash j (by_id (accepted tries)) (apart_from j (by_id (accepted tries)) h.0 adds.fresh are) in
+        (adds.rows ∙ ap (with_rows j) so.0, (adds.whole, so.1), and_from (not (list_any (clash j) (accepted tries))) (no_pair clash (accepted tries)) (ap not none) so.2)
     go false so same = (same ∙ so.0, so.1, so.2)
 
 -- the jobs that were taken are loaded
-pub tried_load : (tries : List (JobRows × Bool)) (rows : Rows) → Tried tries rows → read_history rows ≡ Ok (by_id (taken tries))
-tried_load tries rows h = let so = reached tries rows h in ap read_history so.0 ∙ inserted_load (taken tries) so.1 so.2
+pub tried_load : (tries : List (JobRows × Bool)) (rows : Rows) → Tried tries rows → read_history rows ≡ Ok (by_id (accepted tries))
+tried_load tries rows h = let so = reached tries rows h in ap read_history so.0 ∙ inserted_load (accepted tries) so.1 so.2

@@ -35,7 +35,7 @@ pub record IsSpan (s : Span) : Type 0 where
   pub vol_index : s.vol_index < 2 ^ 32
 
 -- the values of a file are of their types
-pub record IsFile (f : FileRow) : Type 0 where
+pub record IsFileRow (f : FileRow) : Type 0 where
   pub index : f.index < 2 ^ 32
   pub path : is_path f.path ≡ true
   pub lstat : is_utf8 f.lstat ≡ true
@@ -44,7 +44,7 @@ pub record IsFile (f : FileRow) : Type 0 where
 -- the values of a job are of their types, and its files and spans fit together
 pub record IsWhole (j : JobRows) : Type 0 where
   pub row : is_job_row j.row ≡ true
-  pub files : AllByRecursion IsFile j.files
+  pub files : AllByRecursion IsFileRow j.files
   pub spans : AllByRecursion IsSpan j.spans
   pub fit : are_rows j ≡ true
 
@@ -66,6 +66,6 @@ Tried [] rows = rows ≡ no_rows
 Tried (t ∷ tries) rows = (before : Rows) × Tried tries before × MatchBool t.1 (Adds t.0 before rows) (rows ≡ before)
 
 -- the accepted jobs
-unfoldable pub taken : List (JobRows × Bool) → List JobRows
-taken [] = []
-taken (t ∷ tries) = if t.1 then t.0 ∷ taken tries else taken tries
+unfoldable pub accepted : List (JobRows × Bool) → List JobRows
+accepted [] = []
+accepted (t ∷ tries) = if t.1 then t.0 ∷ accepted tries else accepted tries

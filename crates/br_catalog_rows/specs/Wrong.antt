@@ -8,8 +8,8 @@ use Rattle.br_catalog_rows.specs.Decode.{digest_in, letter_in, name_in, natural,
 use Rattle.br_catalog_rows.specs.declared.fault.RowsFault.{RowsFault}
 use Rattle.br_catalog_rows.specs.declared.fault.RowsFault.TheVariants.{BadRows, Memory}
 use Rattle.br_catalog_rows.specs.declared.wrong_rows.Column.{Column}
-use Rattle.br_catalog_rows.specs.declared.wrong_rows.Kind.{Kind}
-use Rattle.br_catalog_rows.specs.declared.wrong_rows.Kind.TheVariants.{Positive, Small, Natural, Letter, Name, VolumeName, Path, Characters, Digest}
+use Rattle.br_catalog_rows.specs.declared.wrong_rows.ColumnKind.{ColumnKind}
+use Rattle.br_catalog_rows.specs.declared.wrong_rows.ColumnKind.TheVariants.{Positive, Small, Natural, Letter, Name, VolumeName, Path, Characters, Digest}
 
 -- a value was read, or it is wrong
 abbrev pub Tells : {X : Type 0} → Result X RowsFault → Bool → Type 0
@@ -25,7 +25,7 @@ positive v = do
   Ok n
 
 -- whether the column of a row at a place is of a kind
-abbrev pub fits_kind : Kind → Row → ℕ → Bool
+abbrev pub fits_kind : ColumnKind → Row → ℕ → Bool
 fits_kind Positive row at = is_ok (positive (column row at))
 fits_kind Small row at = is_ok (small (column row at))
 fits_kind Natural row at = is_ok (natural (column row at))

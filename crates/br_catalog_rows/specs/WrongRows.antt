@@ -9,8 +9,8 @@ use Rattle.br_catalog_rows.specs.Load.{by_job, read_all, read_history, read_rows
 use Rattle.br_catalog_rows.specs.Rows.{Rows}
 use Rattle.br_catalog_rows.specs.Wrong.{first_wrong}
 use Rattle.br_catalog_rows.specs.declared.wrong_rows.Column.{Column}
-use Rattle.br_catalog_rows.specs.declared.wrong_rows.Kind.{Kind}
-use Rattle.br_catalog_rows.specs.declared.wrong_rows.Kind.TheVariants.{Positive, Small, Natural, Letter, Name, VolumeName, Path, Characters, Digest}
+use Rattle.br_catalog_rows.specs.declared.wrong_rows.ColumnKind.{ColumnKind}
+use Rattle.br_catalog_rows.specs.declared.wrong_rows.ColumnKind.TheVariants.{Positive, Small, Natural, Letter, Name, VolumeName, Path, Characters, Digest}
 use Rattle.br_catalog_rows.specs.declared.wrong_rows.Table.{Table}
 use Rattle.br_catalog_rows.specs.declared.wrong_rows.Table.TheVariants as table
 use Rattle.br_catalog_rows.specs.declared.wrong_rows.WrongRows.{WrongRows}
@@ -20,9 +20,9 @@ use Rattle.br_catalog_rows.specs.declared.wrong_rows.WrongRows.TheVariants as wr
 pub record Rule : Type 0 where
   pub at : ℕ
   pub name : List ℕ
-  pub kind : Kind
+  pub kind : ColumnKind
 
-abbrev pub rule : ℕ → List ℕ → Kind → Rule
+abbrev pub rule : ℕ → List ℕ → ColumnKind → Rule
 rule at name kind = record { at = at; name = name; kind = kind }
 
 abbrev pub rule_of : Column → Rule

@@ -6,7 +6,7 @@ ghost use Rattle.hex.specs.Hex.{IsBytes};
 ghost use Rattle.br_model.specs.Name.{is_letter, is_name};
 ghost use Rattle.br_model.specs.Job.{JobRow as Job, JobRows as Whole, clash, is_job_row, no_pair};
 ghost use Rattle.br_catalog_rows.specs.Decode.{IsDigest, FilesReadBack, SpansReadBack, job_row, read_job};
-ghost use Rattle.br_catalog_rows.specs.Inserted.{IsFile, IsSpan, Tried, by_id, taken};
+ghost use Rattle.br_catalog_rows.specs.Inserted.{IsFileRow, IsSpan, Tried, by_id, accepted};
 ghost use Rattle.br_catalog_rows.specs.Load.{NeededLoads, read_history};
 ghost use Rattle.br_catalog_rows.specs.Rows.{Rows};
 
@@ -25,8 +25,8 @@ pub fn rows_read_back()
 /// accepted jobs have different numbers and sessions. They are loaded in order of their
 /// numbers, and refused jobs change nothing.
 pub fn inserted_jobs_load()
-    ensures loads { (tries : List (Whole × Bool)) (rows : Rows) → Tried tries rows → read_history rows ≡ Ok (by_id (taken tries)) }
-    ensures apart { (tries : List (Whole × Bool)) (rows : Rows) → Tried tries rows → no_pair clash (taken tries) ≡ true }
+    ensures loads { (tries : List (Whole × Bool)) (rows : Rows) → Tried tries rows → read_history rows ≡ Ok (by_id (accepted tries)) }
+    ensures apart { (tries : List (Whole × Bool)) (rows : Rows) → Tried tries rows → no_pair clash (accepted tries) ≡ true }
 {}
 
 /// States which history is loaded from the rows of a history if only the files that are needed are
@@ -112,7 +112,7 @@ pub fn span_is_whole(span: &Span)
 
 /// States that the index, the path, the numbers and the digest of a file are of their types.
 pub fn file_is_whole(file: &FileRow)
-    ensures { IsFile file.now }
+    ensures { IsFileRow file.now }
 {
     let _path = file.path.bytes();
     fits_32(file.index);

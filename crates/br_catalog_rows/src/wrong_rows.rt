@@ -48,7 +48,7 @@ pub enum WrongRows {
 
 /// What a column has to hold.
 #[derive(Clone, Copy)]
-pub(crate) enum Kind {
+pub(crate) enum ColumnKind {
     /// A number from 1 to 2^32 - 1.
     Positive,
     /// A number from 0 to 2^32 - 1.
@@ -70,7 +70,7 @@ pub(crate) enum Kind {
 pub(crate) struct Column {
     pub(crate) at: u8,
     pub(crate) name: &'static str,
-    pub(crate) kind: Kind,
+    pub(crate) kind: ColumnKind,
 }
 
 /// The columns of a job.
@@ -78,47 +78,47 @@ const JOB_COLUMNS: [Column; 9] = [
     Column {
         at: 0,
         name: "JobId",
-        kind: Kind::Positive,
+        kind: ColumnKind::Positive,
     },
     Column {
         at: 1,
         name: "Type",
-        kind: Kind::Letter,
+        kind: ColumnKind::Letter,
     },
     Column {
         at: 2,
         name: "Level",
-        kind: Kind::Letter,
+        kind: ColumnKind::Letter,
     },
     Column {
         at: 3,
         name: "Name of its Client",
-        kind: Kind::Name,
+        kind: ColumnKind::Name,
     },
     Column {
         at: 4,
         name: "JobStatus",
-        kind: Kind::Letter,
+        kind: ColumnKind::Letter,
     },
     Column {
         at: 5,
         name: "StartTime",
-        kind: Kind::Natural,
+        kind: ColumnKind::Natural,
     },
     Column {
         at: 6,
         name: "FileSet of its FileSet",
-        kind: Kind::Name,
+        kind: ColumnKind::Name,
     },
     Column {
         at: 7,
         name: "VolSessionId",
-        kind: Kind::Small,
+        kind: ColumnKind::Small,
     },
     Column {
         at: 8,
         name: "VolSessionTime",
-        kind: Kind::Small,
+        kind: ColumnKind::Small,
     },
 ];
 
@@ -127,47 +127,47 @@ const SPAN_COLUMNS: [Column; 9] = [
     Column {
         at: 0,
         name: "JobId",
-        kind: Kind::Small,
+        kind: ColumnKind::Small,
     },
     Column {
         at: 1,
         name: "VolumeName of its Media",
-        kind: Kind::VolumeName,
+        kind: ColumnKind::VolumeName,
     },
     Column {
         at: 2,
         name: "FirstIndex",
-        kind: Kind::Small,
+        kind: ColumnKind::Small,
     },
     Column {
         at: 3,
         name: "LastIndex",
-        kind: Kind::Small,
+        kind: ColumnKind::Small,
     },
     Column {
         at: 4,
         name: "StartFile",
-        kind: Kind::Small,
+        kind: ColumnKind::Small,
     },
     Column {
         at: 5,
         name: "EndFile",
-        kind: Kind::Small,
+        kind: ColumnKind::Small,
     },
     Column {
         at: 6,
         name: "StartBlock",
-        kind: Kind::Small,
+        kind: ColumnKind::Small,
     },
     Column {
         at: 7,
         name: "EndBlock",
-        kind: Kind::Small,
+        kind: ColumnKind::Small,
     },
     Column {
         at: 8,
         name: "VolIndex",
-        kind: Kind::Small,
+        kind: ColumnKind::Small,
     },
 ];
 
@@ -176,27 +176,27 @@ const FILE_COLUMNS: [Column; 5] = [
     Column {
         at: 0,
         name: "JobId",
-        kind: Kind::Small,
+        kind: ColumnKind::Small,
     },
     Column {
         at: 1,
         name: "FileIndex",
-        kind: Kind::Small,
+        kind: ColumnKind::Small,
     },
     Column {
         at: 2,
         name: "Path of its Path with Filename",
-        kind: Kind::Path,
+        kind: ColumnKind::Path,
     },
     Column {
         at: 4,
         name: "LStat",
-        kind: Kind::Characters,
+        kind: ColumnKind::Characters,
     },
     Column {
         at: 5,
         name: "MD5",
-        kind: Kind::Digest,
+        kind: ColumnKind::Digest,
     },
 ];
 
@@ -230,15 +230,15 @@ fn fits(alloc: Global, row: &Row, column: &Column) -> Result<bool, AllocError>
 {
     let at = usize::from(column.at);
     match column.kind {
-        Kind::Positive => is_right(positive_at(row, at)),
-        Kind::Small => is_right(small_at(row, at)),
-        Kind::Natural => is_right(natural_at(row, at)),
-        Kind::Letter => is_right(letter_at(row, at)),
-        Kind::Name => is_right(name_at(alloc, row, at)),
-        Kind::VolumeName => is_right(volume_at(alloc, row, at)),
-        Kind::Path => is_right(path_at(alloc, row, at, at + 1)),
-        Kind::Characters => is_right(string_at(alloc, row, at)),
-        Kind::Digest => is_right(digest_at(row, at)),
+        ColumnKind::Positive => is_right(positive_at(row, at)),
+        ColumnKind::Small => is_right(small_at(row, at)),
+        ColumnKind::Natural => is_right(natural_at(row, at)),
+        ColumnKind::Letter => is_right(letter_at(row, at)),
+        ColumnKind::Name => is_right(name_at(alloc, row, at)),
+        ColumnKind::VolumeName => is_right(volume_at(alloc, row, at)),
+        ColumnKind::Path => is_right(path_at(alloc, row, at, at + 1)),
+        ColumnKind::Characters => is_right(string_at(alloc, row, at)),
+        ColumnKind::Digest => is_right(digest_at(row, at)),
     }
 }
 

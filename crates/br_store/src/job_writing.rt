@@ -4,7 +4,7 @@ ghost use Rattle.std.specs.Prelude.{◌≡◌, [], ◌∷◌, OnOk, OnErr};
 ghost use Rattle.std.specs.List.{AllByRecursion};
 ghost use Rattle.sqlite.specs.State.{KeepsCommit};
 ghost use Rattle.br_catalog_rows.specs.Rows.{with_spans, with_files, with_rows};
-ghost use Rattle.br_catalog_rows.specs.Inserted.{IsFile, IsSpan};
+ghost use Rattle.br_catalog_rows.specs.Inserted.{IsFileRow, IsSpan};
 ghost use Rattle.br_store.specs.Calls.{AddsJob, BorrowsSame, CommitsNothing, InCatalogue, InTransaction};
 ghost use Rattle.br_store.specs.Held.{Writes, WritesFileOf, WritesJob, WritesJobOf, WritesSpanOf};
 
@@ -219,7 +219,7 @@ pub(crate) fn put_files<S: Alter>(
     ensures same_reference { BorrowsSame tx.old.conn tx.new.conn }
     ensures added { InCatalogue S.Store tx.old.conn.now tx.new.conn.now (λ old new.
         OnOk result (Writes (with_files job files.now) old new)) }
-    ensures whole { OnOk result (AllByRecursion IsFile files.now) }
+    ensures whole { OnOk result (AllByRecursion IsFileRow files.now) }
     ensures kept { InCatalogue S.Store tx.old.conn.now tx.new.conn.now (λ old new. OnErr result (KeepsCommit old new)) }
     ensures survives { CommitsNothing S.Store tx.old.conn.now tx.new.conn.now }
 {

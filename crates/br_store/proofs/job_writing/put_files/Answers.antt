@@ -3,7 +3,7 @@ use Rattle.std.proofs.lemmas.List.{take_more}
 use Rattle.std.specs.List.{AllByRecursion}
 use Rattle.sqlite.specs.Held.{state}
 use Rattle.br_catalog_rows.specs.Rows.{with_files}
-use Rattle.br_catalog_rows.specs.Inserted.{IsFile}
+use Rattle.br_catalog_rows.specs.Inserted.{IsFileRow}
 use Rattle.br_store.specs.Held.{Wrote, rows_in}
 use Rattle.br_store.proofs.Appends.{all_push, survives_both}
 use Rattle.br_store.proofs.Writes.{wrote_next, wrote_as, one_file_more, kept_then}
@@ -29,7 +29,7 @@ loop-file-preserved g c =
     take_more c.args.files.now c.loop-file.file-index item (omega (arith, c.loop-file-test.true)) ∙ ap (λ x. before ++ x ∷ []) (sym c.file-item.is) in (
       search rules,
       survives_both a b d c.loop-file.invariant.1 c.put_file.ensures.survives,
-      subst (AllByRecursion IsFile) (sym more) (all_push IsFile before item c.loop-file.invariant.2 c.file_is_whole.ensures),
+      subst (AllByRecursion IsFileRow) (sym more) (all_push IsFileRow before item c.loop-file.invariant.2 c.file_is_whole.ensures),
       λ clean inside tables.
           let so = c.loop-file.invariant.3 (omega (arith, c.put_file.ensures.survives.clean)) inside tables in
           let on = c.in_ok-put_file.ensures.added clean so.mode so.tables in

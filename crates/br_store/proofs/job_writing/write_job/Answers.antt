@@ -5,7 +5,7 @@ use Rattle.sqlite.specs.Held.{state}
 use Rattle.sqlite.specs.State.{HasCleanDisk}
 use Rattle.br_model.specs.Job.{JobRow, is_job_row}
 use Rattle.br_catalog_rows.specs.Rows.{with_job, with_spans, with_files}
-use Rattle.br_catalog_rows.specs.Inserted.{IsFile, IsNewIn, IsSpan}
+use Rattle.br_catalog_rows.specs.Inserted.{IsFileRow, IsNewIn, IsSpan}
 use Rattle.br_store.specs.Held.{rows_in}
 use Rattle.br_store.proofs.Writes.{on_ok_both, wrote_next, wrote_as, rows_are_all}
 use Rattle.br_store.proofs.job_writing.write_job.Goals as goal
@@ -41,7 +41,7 @@ returns-clause-adds g c clean inside tables =
     on_ok_both c.put_files.result (λ wrote files. record {
       whole = record {
         row = subst (λ r. is_job_row r ≡ true) c.row-2.ensures.same c.job_is_whole.ensures;
-        files = subst (AllByRecursion IsFile) c.files.ensures.same files;
+        files = subst (AllByRecursion IsFileRow) c.files.ensures.same files;
         spans = subst (AllByRecursion IsSpan) c.spans.ensures.same c.in_ok-put_spans.ensures.whole;
         fit = c.row.ensures.valid;
       };
