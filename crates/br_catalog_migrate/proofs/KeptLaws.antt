@@ -8,7 +8,7 @@ use Rattle.sqlite_disk.specs.Disk.{MoreFaults}
 use Rattle.sqlite_trees.specs.View.{View, IsClean, IsQuiet, Commits, IsRolledBack, doubt}
 use Rattle.sqlite_trees.specs.declared.store.Store.{Ghosts}
 use Rattle.br_catalog_migrate.specs.Claims.{CountsJobs}
-use Rattle.br_catalog_migrate.specs.Moved.{HasMigrated, IsKept, IsMadeOf, IsMoved, IsMovedFrom, IsSame, IsWhole, MayMove, Migrates, Survives, database}
+use Rattle.br_catalog_migrate.specs.Moved.{HasMigrated, IsKept, IsMadeOf, IsMoved, IsMovedFrom, HasSameTrees, IsWhole, MayMove, Migrates, Survives, database}
 use Rattle.br_catalog_migrate.specs.Old.{HasOld}
 use Rattle.br_catalog_migrate.specs.MigrationSteps.{CommitsNothing, KeepsLast}
 use Rattle.br_catalog_migrate.proofs.MigratedLaws.{is_migrated, jobs_after, jobs_before}
@@ -75,7 +75,7 @@ counts_jobs v0 v2 n k =
     )
 
 -- after a rollback all is as it was
-pub same_again : (v0 v1 v2 : View) → IsFresh v0 → KeepsLast v0 v1 → IsRolledBack v1 v2 → IsClean v2 → IsTrue v2.is_open → IsSame v0 v2
+pub same_again : (v0 v1 v2 : View) → IsFresh v0 → KeepsLast v0 v1 → IsRolledBack v1 v2 → IsClean v2 → IsTrue v2.is_open → HasSameTrees v0 v2
 same_again v0 v1 v2 fresh kept undone clean up =
     let back = rolled_last v1 v2 undone clean in
     let was : v1.committed ≡ v0.committed = kept.committed (back.was_open up) in

@@ -129,5 +129,5 @@ abbrev pub LeavesOnly : {S : Type 0} → Ghosts S → S → Trees → Type 0
 LeavesOnly g s trees = (db : Trees) → g.recovers s db → db ≡ trees
 
 -- the visible and the committed trees are unchanged
-abbrev pub IsSame : View → View → Type 0
-IsSame old new = (new.trees ≡ old.trees) × (new.committed ≡ old.committed)
+abbrev pub HasSameTrees : View → View → Type 0
+HasSameTrees old new = (new.trees ≡ old.trees) × (new.committed ≡ old.committed)

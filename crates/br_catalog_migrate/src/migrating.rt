@@ -4,7 +4,7 @@ ghost use Rattle.std.specs.Prelude.{◌≡◌, false, IsTrue, IfErr, IfOk, OnOk,
 ghost use Rattle.sqlite.specs.Steps.{IsFresh};
 ghost use Rattle.sqlite_trees.specs.View.{IsClean};
 ghost use Rattle.br_catalog_migrate.specs.Claims.{CountsJobs, WritesNew};
-ghost use Rattle.br_catalog_migrate.specs.Moved.{HasMigrated, IsKept, IsMoved, IsSame, KeepsUnlessFailed, LeavesOnly, MayMove, Survives};
+ghost use Rattle.br_catalog_migrate.specs.Moved.{HasMigrated, IsKept, IsMoved, HasSameTrees, KeepsUnlessFailed, LeavesOnly, MayMove, Survives};
 ghost use Rattle.br_catalog_migrate.specs.OldRead.{IsReadOld};
 ghost use Rattle.br_catalog_migrate.specs.MigrationSteps.{CommitsNothing, KeepsLast, OnCleanStore, Reads};
 
@@ -117,7 +117,7 @@ pub fn migrate<S: Alter>(alloc: Global, store: &mut S) -> Result<u64, StoreFault
     ensures migrated { OnCleanStore S.Store store.old store.new (λ old new. OnOk result (HasMigrated old new)) }
     ensures jobs { OnCleanStore S.Store store.old store.new (λ old new. IfOk result (CountsJobs old.trees new.trees)) }
     ensures refused { OnCleanStore S.Store store.old store.new (λ old new. IsTrue new.is_open
-        → OnErr result (IsSame old new)) }
+        → OnErr result (HasSameTrees old new)) }
     ensures fresh { OnCleanStore S.Store store.old store.new (λ old new. IsTrue new.is_open → IsFresh new) }
     ensures numbered { OnCleanStore S.Store store.old store.new (λ old new. IsTrue new.is_numbered) }
     ensures crash { Survives S.Store store.old store.new }
