@@ -23,7 +23,7 @@ use Rattle.clap.proofs.WalkLemmas.{both, one_text-rows}
 use Rattle.clap.proofs.ValueTestLemmas.{Accepts-accepts, accepts-Accepts}
 use Rattle.br_cli_args.specs.ClapCommands.{program_app}
 use Rattle.br_cli_args.proofs.AppLaws.{program_is_free, program_is_simple}
-use Rattle.br_cli_args.specs.Words.{Asked, asked_by, kind_by, number_in, words_asked, words_fault, words_kind}
+use Rattle.br_cli_args.specs.Words.{CommandAsked, asked_by, kind_by, number_in, words_asked, words_fault, words_kind}
 
 -- what clap finds in words is what the program's commands say of them
 found_subcommand : (app : App) (words : List Text) (found : ArgMatches) → app ≡ program_app → HasMatchesOf app words found
@@ -56,7 +56,7 @@ pub of_parse : (words : List Text) (e : Error) → HasKind (fault_of program_app
 unfolding words_fault
 of_parse words e h = first_fails (fault_of program_app words) _ (kind_of e) h
 
-pub no_fault : (words : List Text) (a : Asked) → fault_of program_app words ≡ [] → words_asked words ≡ Some a → words_fault words ≡ []
+pub no_fault : (words : List Text) (a : CommandAsked) → fault_of program_app words ≡ [] → words_asked words ≡ Some a → words_fault words ≡ []
 unfolding words_fault
 no_fault words a none is = rw (none, is) refl
 

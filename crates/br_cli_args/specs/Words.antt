@@ -54,16 +54,16 @@ pub data Goal : Type 0 where
 -- of the volumes, what is done with checksums, and the memory. A catalogue's file; client, file set
 -- and moment of jobs, each if it is given; the rows of files that are looked at; and the zones in
 -- which moments are shown. A catalogue's file. A number. All numbers.
-pub data Asked : Type 0 where
-  Serve : ℕ → Asked
-  ServeFiles : Text → Text → ℕ → Asked
-  Extract : Text → Text → Goal → ℕ → ℕ → Wanted → Start → Syncs → Progress → Option Text → Asked
-  Console : Text → Text → Text → Text → Text → FileRows → Goal → ℕ → ℕ → Syncs → Progress → Option Text → Asked
-  Check : Text → Text → Checksums → ℕ → Asked
-  Jobs : Text → Option Text → Option Text → Option Text → FileRows → Clock → Asked
-  Migrate : Text → Asked
-  Explain : ℕ → Asked
-  ExplainAll : Asked
+pub data CommandAsked : Type 0 where
+  Serve : ℕ → CommandAsked
+  ServeFiles : Text → Text → ℕ → CommandAsked
+  Extract : Text → Text → Goal → ℕ → ℕ → Wanted → Start → Syncs → Progress → Option Text → CommandAsked
+  Console : Text → Text → Text → Text → Text → FileRows → Goal → ℕ → ℕ → Syncs → Progress → Option Text → CommandAsked
+  Check : Text → Text → Checksums → ℕ → CommandAsked
+  Jobs : Text → Option Text → Option Text → Option Text → FileRows → Clock → CommandAsked
+  Migrate : Text → CommandAsked
+  Explain : ℕ → CommandAsked
+  ExplainAll : CommandAsked
 
 -- the program's target of the restored files
 abbrev pub target : Target → Goal
@@ -77,7 +77,7 @@ abbrev pub text_of : Option (Bor Text) → Option Text
 text_of value = option_map (λ s. s.now) value
 
 -- the program's command for a command line
-abbrev pub asked : Invocation → Asked
+abbrev pub asked : Invocation → CommandAsked
 asked (commands.Serve memory) = Serve memory
 asked (commands.ServeFiles o) = ServeFiles o.db.now o.volumes.now o.memory
 asked (commands.Extract o) =
@@ -199,7 +199,7 @@ unfoldable pub checksums_asked : List Row → Checksums
 checksums_asked rows = checksums_by (is_given (codes "checksums") rows)
 
 -- the command `explain` by the value that was found, if there is one
-unfoldable pub explain_asked : List Row → Option Asked
+unfoldable pub explain_asked : List Row → Option CommandAsked
 explain_asked rows =
     if is_some (first_of (codes "number") rows) then option_map Explain (number_asked rows)
     else Some ExplainAll
@@ -223,7 +223,7 @@ start_for TarOutput starts.Empty = Some starts.Empty
 start_for TarOutput starts.Resumed = None
 
 -- the command `extract` by the values that were found for its options
-unfoldable pub extract_asked : List Row → Option Asked
+unfoldable pub extract_asked : List Row → Option CommandAsked
 extract_asked rows =
     option_and_then (λ bsr.
     option_and_then (λ volumes.
@@ -239,7 +239,7 @@ extract_asked rows =
     (first_of (codes "bsr") rows)
 
 -- the command `console` by the values that were found for its options
-unfoldable pub console_asked : List Row → Option Asked
+unfoldable pub console_asked : List Row → Option CommandAsked
 console_asked rows =
     option_and_then (λ db.
     option_and_then (λ volumes.
@@ -258,7 +258,7 @@ console_asked rows =
     (first_of (codes "db") rows)
 
 -- the command `check` by the values that were found for its options
-unfoldable pub check_asked : List Row → Option Asked
+unfoldable pub check_asked : List Row → Option CommandAsked
 check_asked rows =
     option_and_then (λ bsr.
     option_and_then (λ volumes. option_map (λ memory. Check bsr volumes (checksums_asked rows) memory) (memory_asked rows))
@@ -274,7 +274,7 @@ unfoldable pub clock_asked : List Row → Clock
 clock_asked rows = clock_by (is_given (codes "local") rows)
 
 -- the command `jobs` by the values that were found for its options
-unfoldable pub jobs_asked : List Row → Option Asked
+unfoldable pub jobs_asked : List Row → Option CommandAsked
 jobs_asked rows =
     option_map
     (λ db. Jobs db (first_of (codes "client") rows) (first_of (codes "fileset") rows) (first_of (codes "before") rows) (file_rows_asked rows) (clock_asked rows))
@@ -282,22 +282,22 @@ jobs_asked rows =
 
 -- the command `serve` by the values of `--db` and `--volumes`, which have to be given together, and
 -- the memory
-abbrev pub serve_by : Option Text → Option Text → ℕ → Option Asked
+abbrev pub serve_by : Option Text → Option Text → ℕ → Option CommandAsked
 serve_by None None memory = Some (Serve memory)
 serve_by (Some db) (Some volumes) memory = Some (ServeFiles db volumes memory)
 serve_by (Some db) None memory = None
 serve_by None (Some volumes) memory = None
 
 -- the same by the values that were found for the options
-unfoldable pub serve_asked : List Row → Option Asked
+unfoldable pub serve_asked : List Row → Option CommandAsked
 serve_asked rows = option_and_then (serve_by (first_of (codes "db") rows) (first_of (codes "volumes") rows)) (memory_asked rows)
 
 -- the command `migrate` by the value that was found for its option
-unfoldable pub migrate_asked : List Row → Option Asked
+unfoldable pub migrate_asked : List Row → Option CommandAsked
 migrate_asked rows = option_map Migrate (first_of (codes "db") rows)
 
 -- the command by the name of the subcommand and what was found for its options; with no subcommand it is a script
-unfoldable pub asked_by : Option (Text × List Row) → Option Asked
+unfoldable pub asked_by : Option (Text × List Row) → Option CommandAsked
 asked_by None = Some (Serve default_memory)
 asked_by (Some (name, rows)) =
     if bytes_eq name (codes "extract") then extract_asked rows
@@ -310,7 +310,7 @@ asked_by (Some (name, rows)) =
     else None
 
 -- the command that words ask for; the first word is the program's name
-unfoldable pub words_asked : List Text → Option Asked
+unfoldable pub words_asked : List Text → Option CommandAsked
 words_asked words = asked_by (subcommand_of program_app words)
 
 -- the words ask for the command that was found in them
