@@ -1,10 +1,8 @@
 -- Calls on a store, one after another.
 use Rattle.std.proofs.Common.{◌≡◌, inl, ℕ, true, false, List, [], ◌∷◌, ◌++◌, IsTrue, refl, sym, ap, subst, ◌∙◌, arith, append_assoc, append-nil}
 use Rattle.sqlite.specs.Order.{Row}
-use Rattle.sqlite_trees.specs.View.{View, IsClean, IsFailure}
-use Rattle.sqlite_trees.specs.declared.error.StoreError.{StoreError}
+use Rattle.sqlite_trees.specs.View.{View, IsClean}
 use Rattle.sqlite_trees.specs.declared.store.Store.{Ghosts}
-use Rattle.sqlite_exec.specs.Calls.{OnlyReads}
 use Rattle.sqlite_exec.specs.Loops.{left_of}
 use Rattle.sqlite_catalog.proofs.QuietLemmas.{quiet_then}
 use Rattle.br_catalog_migrate.specs.MigrationSteps.{CommitsNothing, GoesOn, KeepsLast, Reads, Starts}
@@ -25,18 +23,6 @@ kept_then p q = record {
 -- a store that is clean after a call was clean before it
 pub clean_before : {S : Type 0} {g : Ghosts S} {a b : S} → CommitsNothing g a b → IsClean (g.view b) → IsClean (g.view a)
 clean_before p clean = omega (arith, clean, p.quiet.clean)
-
--- a call that only reads keeps the last commit
-pub reads_last : (a b : View) → OnlyReads a b → KeepsLast a b
-reads_last a b same = record {
-  was_open = λ up. rw same at up;
-  committed = λ up. ap (λ (v : View). v.committed) same;
-  numbered = ap (λ (v : View). v.is_numbered) same;
-}
-
--- so does a call that failed
-pub failed_last : (a b : View) (e : StoreError) → IsFailure a b e → KeepsLast a b
-failed_last a b e failed = record { was_open = failed.kept.was_open; committed = failed.kept.committed; numbered = failed.kept.numbered }
 
 pub reads_then : (a b c : View) → Reads a b → Reads b c → Reads a c
 reads_then a b c p q = record {

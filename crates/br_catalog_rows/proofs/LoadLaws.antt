@@ -1,11 +1,10 @@
 -- Rows that are read one after another, and rows that are dealt out to jobs.
 use Rattle.std.proofs.Common.{◌≡◌, ℕ, zero, suc, ◌<◌, ◌+◌, Bool, true, false, cond, not, ◌&&◌, ◌||◌, ◌==◌, List, [], ◌∷◌, ◌++◌, take, length, get_or, map, filter, Result, Ok, Err, refl, sym, ap, arith, ◌∙◌, Bor}
 use Rattle.std.specs.List.{list_all, list_any}
-use Rattle.std.proofs.lemmas.Bool.{and_from}
 use Rattle.std.proofs.lemmas.Bool.Decides.{Decides-eqb}
 use Rattle.std.proofs.lemmas.List.{take_more, get_or-map, length-map}
 use Rattle.std.proofs.lemmas.List.Elements.{filter-append}
-use Rattle.std.proofs.lemmas.List.Folds.{list_all_more, list_all_at}
+use Rattle.std.proofs.lemmas.List.Folds.{list_all_at}
 use Rattle.sqlite.specs.Order.{Row, column}
 use Rattle.br_model.specs.Answer.{◌>>=◌, refuse_if, IsRefusal}
 use Rattle.br_model.specs.Job.{JobRow, JobRows, pushed, no_pair, clash}
@@ -13,7 +12,6 @@ use Rattle.br_model.specs.Name.{same_session}
 use Rattle.br_history.specs.Fault.{cause as history_cause}
 use Rattle.br_history.specs.declared.fault.HistoryFault.{HistoryFault}
 use Rattle.br_history.specs.declared.fault.HistoryFault.TheVariants as rows
-use Rattle.br_history.proofs.ClashLaws.{no_pair_push}
 use Rattle.br_catalog_rows.specs.declared.fault.RowsFault.{RowsFault}
 use Rattle.br_catalog_rows.specs.declared.fault.RowsFault.TheVariants.{Memory, BadRows}
 use Rattle.br_catalog_rows.specs.Fault.{rows_cause, of_history_fault}
@@ -166,19 +164,6 @@ refused_clashes h j n e = go (list_any (λ (k : JobRows). k.row.id == j.row.id) 
     go false true is on e = or_else (λ (k : JobRows). k.row.id == j.row.id) (λ (k : JobRows). same_session k.row.session j.row.session) h on
     go false false is on e = absurd cc
 
--- a history with one more job is one
-pub still_apart : (h : List JobRows) (j : JobRows) → pushed h j ≡ Ok (h ++ j ∷ []) → no_pair clash h ≡ true → no_pair clash (h ++ j ∷ []) ≡ true
-unfolding pushed
-still_apart h j e before = go (list_any (λ (k : JobRows). k.row.id == j.row.id) h) (list_any (λ (k : JobRows). same_session k.row.session j.row.session) h) refl refl e
-  where
-    go : (a b : Bool) → list_any (λ (k : JobRows). k.row.id == j.row.id) h ≡ a → list_any (λ (k : JobRows). same_session k.row.session j.row.session) h ≡ b
-        → push_tested a b (h ++ j ∷ []) ≡ Ok (h ++ j ∷ []) → no_pair clash (h ++ j ∷ []) ≡ true
-    go true b is on e = absurd cc
-    go false true is on e = absurd cc
-    go false false is on e =
-        no_pair_push clash h j
-        ∙ and_from _ _ before (ap not (neither (λ (k : JobRows). k.row.id == j.row.id) (λ (k : JobRows). same_session k.row.session j.row.session) h is on))
-
 -- a history that can't take the next job
 pub apart_fails : (e : HistoryFault) (h rest : List JobRows) (j : JobRows) → IsRefusal (history_cause e) (pushed h j) → IsRefusal (rows_cause (of_history_fault e)) (if_apart (h ++ j ∷ rest))
 unfolding if_apart
@@ -218,12 +203,6 @@ no_test jobs row e is = ap (λ (p : ℕ → Bool). list_any (λ (j : JobRow). p 
     never : (js : List JobRow) → list_any (λ (j : JobRow). false) js ≡ false
     never [] = refl
     never (j ∷ js) = never js
-
--- the next row is of one of the jobs
-pub known_more : (jobs : List JobRow) (rows : List Row) (i n : ℕ) (row : Row) → i < length rows → row ≡ get_or rows i row → small (column row 0) ≡ Ok n
-    → list_any (λ (j : JobRow). j.id == n) jobs ≡ true → list_all (has_job jobs) (take i rows) ≡ true → list_all (has_job jobs) (take (i + 1) rows) ≡ true
-known_more jobs rows i n row lt at is known before =
-    list_all_more (has_job jobs) rows i row lt ∙ and_from _ _ before (ap (has_job jobs) (sym at) ∙ same_test jobs row n is ∙ known)
 
 -- all rows are
 pub dealt : (jobs : List JobRow) (rows : List Row) (groups : ℕ → List Row) → list_all (has_job jobs) rows ≡ true → ((id : ℕ) → groups id ≡ filter (is_of id) rows) → by_job jobs rows ≡ Ok groups

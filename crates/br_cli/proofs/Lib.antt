@@ -1,2 +1,1 @@
-mod FreeLaws
 pub mod VolumesLaws

@@ -307,24 +307,6 @@ none_planned None earlier later before now history q lines plan asked groups beg
 none_planned (Some text) earlier later before now history q lines plan asked groups begins is same none = λ volumes stands.
     none volumes (subst (λ (gs : List Group). AllStand earlier later (pieces_of gs) volumes) (sym (is ∙ same)) (stands plan begins.1))
 
--- a session that was broken off is not the fault of a piece
-pub free_is_no_piece : (why : ConsoleFault) → IsBrokenOff why → IsNoPiece why
-free_is_no_piece fault.Memory free = tt
-free_is_no_piece (fault.Plan why) free = tt
-free_is_no_piece (fault.Piece why) free = absurd free
-free_is_no_piece fault.Changed free = absurd free
-free_is_no_piece (fault.Io why) free = tt
-free_is_no_piece (fault.NoEnd turns) free = tt
-
--- a plan's refusal is none either
-pub unplanned_is_no_piece : (now after : Option (List ℕ)) (expected : Result Plan ℕ) (why : ConsoleFault) → WritesPlan now after expected (Err why) → IsNoPiece why
-unplanned_is_no_piece now after expected fault.Memory h = tt
-unplanned_is_no_piece now after expected (fault.Plan why) h = tt
-unplanned_is_no_piece now after expected (fault.Piece why) h = absurd h
-unplanned_is_no_piece now after expected fault.Changed h = absurd h
-unplanned_is_no_piece now after expected (fault.Io why) h = tt
-unplanned_is_no_piece now after expected (fault.NoEnd turns) h = tt
-
 -- nor does it say that the lines have no end
 pub unplanned_has_end : (now after : Option (List ℕ)) (expected : Result Plan ℕ) (why : ConsoleFault) → WritesPlan now after expected (Err why) → EndlessAfterAll why
 unplanned_has_end now after expected fault.Memory h = tt

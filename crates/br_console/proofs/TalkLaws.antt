@@ -253,27 +253,11 @@ SoFar (Some text) (Some left) before now s t clean = IsSoFar text left before no
 SoFar (Some text) None before now s t clean = ⊥
 SoFar None left before now s t clean = ⊤
 
-appends_nothing : (held : Option (List ℕ)) → Appends held held []
-appends_nothing None = tt
-appends_nothing (Some xs) = sym (append-nil xs)
-
 appends_more : (before now next : Option (List ℕ)) (xs ys : List ℕ) → Appends before now xs → Appends now next ys → Appends before next (xs ++ ys)
 appends_more None now next xs ys p q = tt
 appends_more (Some b) None next xs ys p q = absurd p
 appends_more (Some b) (Some n) None xs ys p q = absurd q
 appends_more (Some b) (Some n) (Some m) xs ys p q = q ∙ ap (λ l. l ++ ys) p ∙ append_assoc b xs ys
-
-pub at_first : (known held : Option (List ℕ)) (s : Situation) → SoFar known known held held s s true
-at_first None held s = tt
-at_first (Some text) held s = record {
-  shown = [];
-  appended = appends_nothing held;
-  written_whole = refl;
-  marks = refl;
-  answered = refl;
-  state = refl;
-  unsaid = refl;
-}
 
 -- a line was read and said, and what it is answered was written
 pub record IsTurn (left later now next : Option (List ℕ)) (t u : Situation) (r : Result model.Answer ℕ) : Type 0 where

@@ -1,22 +1,19 @@
 -- Connections over files and in memory that were just opened.
-use Rattle.std.proofs.Common.{IsTrue, ap, refl}
+use Rattle.std.proofs.Common.{IsTrue, ap}
 use Rattle.std.proofs.Math.Logic.{∥∥₁_elim}
 use Rattle.sqlite_disk.specs.declared.Disk.{Ghosts}
 use Rattle.sqlite_wal.proofs.StateLemmas.{clean_of}
 use Rattle.sqlite_trees.specs.View.{View, IsOrdered}
 use Rattle.sqlite_trees.specs.Props.{IsOrdered-prop}
 use Rattle.sqlite_trees.specs.Objects.{catalog_tree, IsListed}
-use Rattle.sqlite_trees.specs.declared.memory.MemStore.{MemStore}
-use Rattle.sqlite_trees.specs.Memory.{memory_view, memory_is_listed, memory_is_ordered}
 use Rattle.sqlite_store.specs.declared.store.FileStore.{FileStore}
 use Rattle.sqlite_store.specs.FileStore.{state as state_of, view}
 use Rattle.sqlite_store.specs.Listed.{catalog_rows, is_listed}
 use Rattle.sqlite_store.proofs.ListingLemmas.{all_ordered}
 use Rattle.sqlite.specs.Effect.{Database}
 use Rattle.sqlite.specs.Files.{IsOpened, file_state, over_files}
-use Rattle.sqlite.specs.Held.{Held, IsNew, state}
-use Rattle.sqlite.specs.State.{HasCleanDisk, IsLive, Opens}
-use Rattle.sqlite.specs.Steps.{over_memory}
+use Rattle.sqlite.specs.Held.{Held, IsNew}
+use Rattle.sqlite.specs.State.{HasCleanDisk}
 use Rattle.br_store.specs.Calls.{IsJustOpened}
 use Rattle.br_store.proofs.Opens.{rising_in}
 
@@ -41,12 +38,3 @@ module _ {D : Type 0} {g : Ghosts D} where
         let up = is.0.is_open in
         rising_in (committed_in c.store) (file_state c).now (ap (λ (db : Database). db.trees) is.0.clean) (is.1 up).0 (listed c.store up) (ordered c.store up);
   }
-
--- the same of a database in memory
-pub just_made : (c : Held MemStore) → IsNew c → Opens (state over_memory c) × IsLive (state over_memory c) → IsJustOpened over_memory c
-just_made c new opened = record {
-  idle = new.autocommit;
-  opens = λ clean. opened.0;
-  rising = λ clean.
-      rising_in (memory_view c.store) (state over_memory c).now refl (opened.1 opened.0.is_open).0 (memory_is_listed c.store) (memory_is_ordered c.store);
-}

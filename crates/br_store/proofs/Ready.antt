@@ -27,7 +27,3 @@ stays_both a b c one two up =
 pub err_with : {T E P : Type 0} (r : Result T E) → P → OnErr r P
 err_with (Ok x) p = tt
 err_with (Err e) p = p
-
-pub if_ok_both : {T E : Type 0} (P Q : T → Type 0) (r : Result T E) → IfOk r P → IfOk r Q → IfOk r (λ x. P x × Q x)
-if_ok_both P Q (Ok x) p q = (p, q)
-if_ok_both P Q (Err e) p q = tt

@@ -1,5 +1,5 @@
 -- The files of some jobs, kept while the rows of all files are walked over.
-use Rattle.std.proofs.Common.{◌≡◌, inl, ℕ, List, [], ◌∷◌, ◌++◌, length, filter, None, Some, IsTrue, refl, sym, ap, subst, ◌∙◌, arith}
+use Rattle.std.proofs.Common.{◌≡◌, inl, ℕ, List, [], ◌∷◌, ◌++◌, length, filter, None, Some, refl, sym, ap, subst, ◌∙◌, arith}
 use Rattle.std.proofs.lemmas.List.Elements.{filter-append}
 use Rattle.sqlite.specs.declared.error.Error.{Error}
 use Rattle.sqlite.specs.Effect.{Database}
@@ -18,14 +18,6 @@ use Rattle.br_store.proofs.Asks.{Shows, select_files, files_query, file_names}
 use Rattle.br_store.proofs.FileTexts.{select_files_is}
 use Rattle.br_store.proofs.Loads.{files_shown}
 use Rattle.br_store.proofs.Selects.{answers, failure_keeps}
-
--- an open database is unchanged if nothing happens
-pub unchanged_itself : (s : State) → IsTrue s.is_open → IsUnchanged s s
-unchanged_itself s up = (
-  record { was_open = up; is_open = up; now_is = refl; committed_is = refl; mode = refl },
-  record { changes = refl; last_rowid = refl },
-  refl,
-)
 
 -- what a failure keeps after nothing was changed
 pub kept_after : (a b c : State) → IsUnchanged a b → KeepsCommit b c → KeepsCommit a c

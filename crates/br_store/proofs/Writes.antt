@@ -326,9 +326,6 @@ pub file_row_is : (job : ℕ) (f : FileRow) (index : ℕ) (a b l d : List ℕ) �
     → ◌≡◌ {A = Row} (Int (pos job) ∷ Int (pos index) ∷ Blob a ∷ Blob b ∷ Text l ∷ Text d ∷ []) (file_row job f)
 file_row_is job f index a b l d e1 e2 e3 e4 e5 = rw (e1, e2, e3, e4, e5) refl
 
-pub no_spans : (job : ℕ) (rows : Rows) → with_spans job [] rows ≡ rows
-no_spans job rows = ap (λ l. record rows { spans = l }) (append-nil rows.spans)
-
 pub no_files : (job : ℕ) (rows : Rows) → with_files job [] rows ≡ rows
 no_files job rows = ap (λ l. record rows { files = l }) (append-nil rows.files)
 
