@@ -1,5 +1,5 @@
 -- What the catalogue in a file tells, if its disk has returned what was written to it.
-use Rattle.std.specs.Prelude.{◌≡◌, ℕ, List, [], ◌++◌, Option, Some, None, IsTrue, codes}
+use Rattle.std.specs.Prelude.{◌≡◌, ℕ, List, [], ◌++◌, Option, Some, None, Ok, IsTrue, codes}
 use Rattle.sqlite.specs.Effect.{Database}
 use Rattle.sqlite.specs.Held.{Held}
 use Rattle.sqlite_trees.specs.declared.store.Store.{Ghosts}
@@ -7,6 +7,8 @@ use Rattle.sqlite_disk.specs.declared.Disk as disk
 use Rattle.sqlite_disk.specs.declared.Files.{Files}
 use Rattle.sqlite_store.specs.declared.store.FileStore.{FileStore}
 use Rattle.sqlite_wal.specs.Reads.{AreClean}
+use Rattle.br_model.specs.Job.{JobRows}
+use Rattle.br_catalog_rows.specs.Load.{read_needed}
 use Rattle.br_catalog_rows.specs.Rows.{Rows}
 use Rattle.br_catalog_rows.specs.WrongRows.{TellsWrong}
 use Rattle.br_catalog_rows.specs.WrongText.{wrong_text}
@@ -27,6 +29,10 @@ pub record IsOpened {S : Type 0} (g : Ghosts S) (held : Held S) : Type 0 where
 -- the claim holds of the rows that an opening of a database finds
 abbrev pub OfFoundRows : Database → (Rows → Type 0) → Type 0
 OfFoundRows before claim = (found : Database) × Finds before found × claim (rows_in found.trees)
+
+-- these jobs are loaded from such rows, with the files of those alone whose files are needed
+abbrev pub LoadsNeeded : Database → (List JobRows → List ℕ) → List JobRows → Type 0
+LoadsNeeded before needed history = OfFoundRows before (λ (rows : Rows). read_needed needed rows ≡ Ok history)
 
 -- the line that says what is wrong; nothing if nothing is
 abbrev pub wrong_line : Option WrongRows → List ℕ

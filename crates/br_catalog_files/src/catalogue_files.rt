@@ -6,9 +6,9 @@ ghost use Rattle.sqlite.specs.Held.{state};
 ghost use Rattle.sqlite.specs.Steps.{IsFresh};
 ghost use Rattle.sqlite_store.specs.FileStore.{view};
 ghost use Rattle.sqlite_trees.specs.View.{IsClean};
-ghost use Rattle.br_catalog_files.specs.FileCatalogue.{IsClosed, IsOpened, OfFoundRows, SaysWrong, wrong_line};
+ghost use Rattle.br_catalog_files.specs.FileCatalogue.{IsClosed, IsOpened, LoadsNeeded, OfFoundRows, SaysWrong, wrong_line};
 ghost use Rattle.br_catalog_rows.specs.Fault.{fault_number};
-ghost use Rattle.br_catalog_rows.specs.Load.{read_history, read_needed};
+ghost use Rattle.br_catalog_rows.specs.Load.{read_history};
 ghost use Rattle.br_store.specs.Calls.{IsJustOpened, WhileClean};
 ghost use Rattle.br_store.specs.Look.{look_number};
 ghost use Rattle.br_store.specs.Made.{Finds};
@@ -90,8 +90,7 @@ fn load_needed_from<S: Alter + Drop, N: Needs>(
     needs: &N,
 ) -> Result<(History, Connection<S>), StoreFault>
     requires { IsJustOpened S.Store conn }
-    ensures { IfOk result (λ r. WhileClean S.Store r.1 (λ _.
-        OfFoundRows (state S.Store conn).committed (λ rows. read_needed (N.needed needs.now) rows ≡ Ok r.0))) }
+    ensures { IfOk result (λ r. WhileClean S.Store r.1 (λ _. LoadsNeeded (state S.Store conn).committed (N.needed needs.now) r.0)) }
 {
     let mut store = opened(alloc, conn)?;
     let history = store.load_needed(needs)?;

@@ -24,7 +24,7 @@ use Rattle.br_store.specs.declared.name_numbers.Dictionary.{Dictionary}
 use Rattle.br_store.specs.declared.name_numbers.Dictionary.TheVariants.{Client, FileSet, Media, Path}
 use Rattle.br_store.specs.declared.job_writing.PathParts.{PathParts}
 use Rattle.br_store.specs.Names.{tree_of, word}
-use Rattle.br_catalog_rows.specs.Load.{with_files_of}
+use Rattle.br_catalog_rows.specs.Load.{is_of_any, with_files_of}
 use Rattle.br_catalog_rows.specs.Rows.{Rows, with_file_row, with_job, with_spans}
 use Rattle.sqlite_trees.specs.Objects.{catalog_tree, number_in}
 use Rattle.sqlite_catalog.specs.Listing.{is_table_row}
@@ -122,6 +122,10 @@ rows_in trees = rows_at (layout_in trees) trees
 abbrev pub looked_at : Option (Bor (List ℕ)) → Rows → Rows
 looked_at None rows = rows
 looked_at (Some ids) rows = with_files_of ids.now rows
+
+-- the rows of files of the jobs with these numbers
+abbrev pub files_of_jobs : List ℕ → Trees → List Row
+files_of_jobs ids trees = filter (is_of_any ids) (rows_in trees).files
 
 -- ---- databases
 

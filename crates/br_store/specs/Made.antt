@@ -1,19 +1,23 @@
 -- A catalogue under construction.
-use Rattle.std.specs.Prelude.{◌≡◌, ◌⊎◌, List, [], ◌∷◌, Bool, false, if◌then◌else◌, Option, None, Some, IsTrue}
+use Rattle.std.specs.Prelude.{◌≡◌, ◌⊎◌, ℕ, List, [], ◌∷◌, Bool, false, if◌then◌else◌, Option, None, Some, Result, IsTrue}
+use Rattle.std.specs.Borrow.{Bor}
 use Rattle.std.specs.List.{AllByRecursion}
 use Rattle.sqlite.specs.Table.{Table}
 use Rattle.sqlite.specs.Schema.{Schema}
 use Rattle.sqlite.specs.Effect.{Database, IsDatabase}
 use Rattle.sqlite.specs.State.{State, IsUnchanged}
 use Rattle.sqlite.specs.Order.{Row, column}
+use Rattle.sqlite.specs.Tree.{Trees}
+use Rattle.br_model.specs.Answer.{Answers}
+use Rattle.br_model.specs.Job.{JobRows}
 use Rattle.br_catalog_rows.specs.Decode.{natural}
-use Rattle.br_catalog_rows.specs.Load.{is_read}
-use Rattle.br_catalog_rows.specs.Fault.{IsStoreFault}
+use Rattle.br_catalog_rows.specs.Load.{is_read, read_history}
+use Rattle.br_catalog_rows.specs.Fault.{IsStoreFault, cause}
 use Rattle.br_catalog_rows.specs.declared.fault.StoreFault.{StoreFault}
 use Rattle.br_catalog_rows.specs.declared.fault.StoreFault.TheVariants.{BadCatalogue, Memory, OldCatalogue}
 use Rattle.br_catalog_rows.specs.Rows.{no_rows}
 use Rattle.br_catalog_tables.specs.Tables.{no_schema}
-use Rattle.br_store.specs.Held.{HasTables, HasVersions, rows_in, versions_in}
+use Rattle.br_store.specs.Held.{HasTables, HasVersions, looked_at, rows_in, versions_in}
 
 -- a database with these tables, which have no row
 pub record HasEmptied (schema : Schema) (db : Database) : Type 0 where
@@ -69,6 +73,10 @@ IsWhy old new fault =
 -- history
 abbrev pub IsLoadFault : StoreFault → Type 0
 IsLoadFault fault = IsStoreFault fault ⊎ ((fault ≡ Memory) ⊎ (fault ≡ BadCatalogue))
+
+-- the jobs that the rows which are looked at form are loaded, or refused
+abbrev pub LoadsAs : Option (Bor (List ℕ)) → Trees → Result (List JobRows) StoreFault → Type 0
+LoadsAs wanted trees result = Answers (λ (h : List JobRows). h) cause result (read_history (looked_at wanted (rows_in trees)))
 
 -- opening keeps the database that it finds, or makes a catalogue with no job in a database with no
 -- table

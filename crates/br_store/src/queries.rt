@@ -4,7 +4,7 @@ ghost use Rattle.std.specs.Prelude.{◌≡◌, ◌∷◌, ◌++◌, [], false, f
 ghost use Rattle.sqlite.specs.Held.{state};
 ghost use Rattle.sqlite.specs.State.{IsUnchanged, KeepsCommit};
 ghost use Rattle.br_store.specs.Calls.{CommitsNothing, IsReadable, IsSame, KeepsSettled, OnCleanDisk, ShowsVersions, Stays, StaysIdle, WhileClean};
-ghost use Rattle.br_store.specs.Held.{IsCatalogue, looked_at, rows_in, versions_in};
+ghost use Rattle.br_store.specs.Held.{IsCatalogue, files_of_jobs, looked_at, rows_in, versions_in};
 ghost use Rattle.br_store.specs.Queries.{select_files};
 ghost use Rattle.br_catalog_rows.specs.Load as load;
 
@@ -99,7 +99,7 @@ fn files_of<S: Alter>(
 ) -> Result<Vec<Row>, Error>
     requires { IsReadable S.Store conn.old }
     ensures rows { OnCleanDisk S.Store conn.old conn.new (λ old new.
-        IfOk result (λ rows. rows.items ≡ filter (load.is_of_any jobs.now) (rows_in old.now.trees).files)) }
+        IfOk result (λ rows. rows.items ≡ files_of_jobs jobs.now old.now.trees)) }
     ensures same { OnCleanDisk S.Store conn.old conn.new (λ old new. OnOk result (IsUnchanged old new)) }
     ensures idle { StaysIdle conn.old conn.new }
     ensures kept { OnCleanDisk S.Store conn.old conn.new (λ old new. OnErr result (KeepsCommit old new)) }
@@ -127,7 +127,7 @@ fn some_files<S: Alter>(
     requires tables { IsReadable S.Store conn.old }
     requires open { WhileClean S.Store conn.old (λ database. IsTrue database.is_open) }
     ensures rows { OnCleanDisk S.Store conn.old conn.new (λ old new.
-        IfOk result (λ rows. rows.items ≡ filter (load.is_of_any jobs.now) (rows_in old.now.trees).files)) }
+        IfOk result (λ rows. rows.items ≡ files_of_jobs jobs.now old.now.trees)) }
     ensures same { OnCleanDisk S.Store conn.old conn.new (λ old new. OnOk result (IsUnchanged old new)) }
     ensures idle { StaysIdle conn.old conn.new }
     ensures kept { OnCleanDisk S.Store conn.old conn.new (λ old new. OnErr result (KeepsCommit old new)) }

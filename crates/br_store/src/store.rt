@@ -10,8 +10,8 @@ ghost use Rattle.br_catalog_rows.specs.Rows.{no_rows};
 ghost use Rattle.br_catalog_rows.specs.WrongRows.{TellsWrong};
 ghost use Rattle.br_store.specs.Calls.{AddsJob, CommitsNothing, IsCommitted, IsDurable, IsJustOpened, IsReadable, IsSame};
 ghost use Rattle.br_store.specs.Calls.{MayCommit, MayMake, OnCleanDisk, WhileClean};
-ghost use Rattle.br_store.specs.Held.{AddsMedia, IsCatalogue, HasTables, looked_at, rows_in, versions_in};
-ghost use Rattle.br_store.specs.Made.{Finds, IsLoadFault, IsOpenFault, IsWhy, version_refusal};
+ghost use Rattle.br_store.specs.Held.{AddsMedia, IsCatalogue, HasTables, rows_in, versions_in};
+ghost use Rattle.br_store.specs.Made.{Finds, IsLoadFault, IsOpenFault, IsWhy, LoadsAs, version_refusal};
 
 use crate::job_writing::write_job;
 use crate::opening::make_or_check;
@@ -103,8 +103,7 @@ impl<S: Alter> Store<S> {
     /// Loads the history that the rows form which are looked at: all, or of files those of some jobs
     /// alone.
     fn load(&mut self, wanted: Option<&[JobId]>) -> Result<History, StoreFault>
-        ensures answers { OnCleanDisk S.Store self.old self.new (λ old new.
-            Answers (λ h. h) cause result (read_history (looked_at wanted.entry (rows_in old.now.trees)))) }
+        ensures answers { OnCleanDisk S.Store self.old self.new (λ old new. LoadsAs wanted.entry old.now.trees result) }
         ensures same { OnCleanDisk S.Store self.old self.new (λ old new. IsTrue new.is_open → IsSame old new) }
         ensures open { OnCleanDisk S.Store self.old self.new (λ old new. OnOk result (IsTrue new.is_open)) }
         ensures survives { CommitsNothing S.Store self.old self.new }
