@@ -91,5 +91,5 @@ RunOnlyIfChanged claim (Ok run) = EndsOnlyIf 72 claim run.end
 RunOnlyIfChanged claim (Err why) = why ≡ Changed → claim
 
 -- that happens only if there are no volumes that each of the drives may be taken to show
-abbrev pub ChangesOnlyInto : Option (List ℕ) → Change → Asked → Result ConsoleRun ConsoleFault → Type 0
-ChangesOnlyInto known seen asked result = RunOnlyIfChanged (NoneStandForPlan known seen.old.told seen.new.told asked.history asked.request) result
+abbrev pub ChangesInto : Option (List ℕ) → Change → Asked → Result ConsoleRun ConsoleFault → Type 0
+ChangesInto known seen asked result = RunOnlyIfChanged (NoneStandForPlan known seen.old.told seen.new.told asked.history asked.request) result

@@ -6,7 +6,7 @@ ghost use Rattle.br_engine.specs.Fault.{IsNoLine};
 ghost use Rattle.br_engine.specs.Restores.{CountsFailures, change};
 ghost use Rattle.br_console.specs.ConsoleFault.{EndlessAfterAll, IsNoPiece};
 ghost use Rattle.br_console.specs.Running.{BecomesFault, IsNoDriveLeft, WritesPlan, opening};
-ghost use Rattle.br_console.specs.Delivering.{BeginsInto, ChangesOnlyInto, DeliversInto, RunStopIsCounted, RunStopIsLost};
+ghost use Rattle.br_console.specs.Delivering.{BeginsInto, ChangesInto, DeliversInto, RunStopIsCounted, RunStopIsLost};
 ghost use Rattle.br_console.specs.Delivering.{RunsInto, TellsInto};
 ghost use Rattle.br_console.specs.Delivering.{IfUnchosen, IsViewOfAsked, plan_for};
 
@@ -137,7 +137,7 @@ pub fn run_console<R: BufRead + Drop, D: Drive + Send, W: Flush, S: Sink>(
     ensures places { StayInPlace D.shows D.failures restore.old.drives.items restore.new.drives.items }
     ensures failed { OnlyIfAllFail D.failures restore.old.drives.items restore.new.drives.items IsNoDriveLeft result }
     ensures lost { RunStopIsLost D.failures restore.old restore.new result }
-    ensures changed { ChangesOnlyInto (R.remaining reader.old)
+    ensures changed { ChangesInto (R.remaining reader.old)
         (change D.Drive W.Write S.Sink (restore.old, writer.old) (restore.new, writer.new)) asked.now result }
     ensures sink_counted { CountsFailures S.failures restore.old restore.new }
     ensures sink_failed { RunStopIsCounted S.failures restore.old restore.new result }
