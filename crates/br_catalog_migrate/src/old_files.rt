@@ -23,15 +23,12 @@ use crate::tree_cursor::{start, step};
 use br_attr::Stat;
 use br_catalog_rows::StoreFault;
 use br_history::JobRows;
-use br_types::is_path_of;
+use br_types::{MAX_INDEX, is_path_of};
 use sqlite_trees::store::Store;
 use sqlite_value::row::Row;
 use sqlite_value::value::ValueRef;
 use std::alloc::{AllocError, Global};
 use std::collections::BTreeMap;
-
-/// The greatest index of a file.
-const MAX_INDEX: u32 = 2_147_483_647;
 
 /// The numbers of a row of File: its own, the index, and those of the job, the path and the name.
 #[derive(Clone, Copy)]

@@ -5,11 +5,9 @@ ghost use Rattle.br_console.specs.ScriptLine.{LeavesDrives, drives_said, fields_
 ghost use Rattle.br_console.specs.ScriptLine.{volume_said, word_said};
 
 use crate::drive_count::DriveCount;
+use br_history::MAX_LINE;
 use br_types::{LineFault, VolName, cut, read_bytes, unescape};
 use std::alloc::Global;
-
-/// The greatest number of bytes of a line of a script, without its LF.
-pub(crate) const MAX_LINE: usize = 4096;
 
 /// A line of a script outside of a job.
 #[derive(Drop)]

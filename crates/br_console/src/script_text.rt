@@ -3,7 +3,7 @@ ghost use Rattle.std.specs.Prelude.{◌≤◌, OnOk};
 
 use crate::script_fault::ScriptFault;
 use crate::script_input::{InputLines, LineReading};
-use crate::script_line::MAX_LINE;
+use br_history::MAX_LINE;
 use br_mark::Command;
 use std::alloc::Global;
 use std::io::BufRead;

@@ -12,7 +12,7 @@ use br_types::{Path, cut};
 use std::alloc::Global;
 
 /// The greatest number of bytes of a line of a script, without its LF.
-const MAX_LINE: usize = 4096;
+pub const MAX_LINE: usize = 4096;
 
 /// A line of a job after the first.
 #[derive(Drop)]

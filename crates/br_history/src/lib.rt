@@ -29,7 +29,7 @@ pub use fault::{HistoryFault, SavedJobFault};
 pub use history::History;
 pub use job_fields::{name_of, next};
 pub use job_head::{JobHead, read_head};
-pub use job_line::{JobLine, read_job_line};
+pub use job_line::{JobLine, MAX_LINE, read_job_line};
 pub use job_line_fault::JobLineFault;
 pub use laws::{pushed_is_admitted, volumes_stay_whole, whole_volumes_are_ready, written_rows_fit};
 pub use row::{FileRow, JobRow};
