@@ -15,9 +15,8 @@ ghost use Rattle.br_store.specs.Made.{Finds};
 ghost use Rattle.br_keeper.specs.Catalogue.{catalogue_number};
 
 use br_catalog_rows::{WrongRows, push_wrong};
-use br_history::History;
+use br_history::{History, Needs};
 use br_keeper::{Catalogue, CatalogueFault};
-use br_needed::Needs;
 use br_store::{HostSight, LookFault, Store, StoreFault, StoredJobs, fold, look};
 use sqlite::{Alter, Connection, File, FileStore};
 use sqlite_disk::Memory;

@@ -9,7 +9,7 @@ use Rattle.br_model.proofs.AnswerLaws.{bind_ok, chosen, err_is_not_ok, ok_is}
 use Rattle.br_model.proofs.ListLaws.{all_filter, all_pass, filter_twice, holds_of_all, keeps_none}
 use Rattle.br_catalog_rows.specs.Decode.{small, read_file, read_job, read_span, refused}
 use Rattle.br_catalog_rows.specs.Load.{read_all, is_of, is_read, has_job, by_job, by_number, check_version, read_rows, if_apart, read_loaded, read_history}
-use Rattle.br_needed.specs.Needed.{bare, files_if, is_one_of}
+use Rattle.br_history.specs.Needed.{bare, files_if, is_one_of}
 use Rattle.br_catalog_rows.specs.Load.{NeededLoads, is_of_any, read_needed, with_files_of, without_files}
 use Rattle.br_catalog_rows.specs.Rows.{Rows}
 

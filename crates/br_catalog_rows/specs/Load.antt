@@ -9,7 +9,7 @@ use Rattle.sqlite.specs.declared.types.Value.{Value}
 use Rattle.sqlite.specs.Order.{Row, column}
 use Rattle.br_model.specs.Answer.{◌>>=◌, refuse_if}
 use Rattle.br_model.specs.Job.{JobRow, Span, JobRows, checked_rows, no_pair, clash}
-use Rattle.br_needed.specs.Needed.{with_needed}
+use Rattle.br_history.specs.Needed.{with_needed}
 use Rattle.br_catalog_rows.specs.Decode.{natural, small, refused, read_job, read_span, read_file}
 use Rattle.br_catalog_rows.specs.Rows.{Rows}
 

@@ -7,7 +7,7 @@ ghost use Rattle.std.specs.BTreeMap.{get};
 ghost use Rattle.br_model.specs.Answer.{Answers, refuse_if};
 ghost use Rattle.br_model.specs.Job.{JobRow as Job};
 ghost use Rattle.sqlite.specs.Order.{column};
-ghost use Rattle.br_needed.specs.Needed.{is_one_of};
+ghost use Rattle.br_history.specs.Needed.{is_one_of};
 ghost use Rattle.br_catalog_rows.specs.Load as load;
 ghost use Rattle.br_catalog_rows.specs.Fault.{rows_cause};
 ghost use Rattle.br_catalog_rows.specs.Rows.{Rows};

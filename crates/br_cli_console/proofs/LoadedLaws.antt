@@ -2,8 +2,8 @@
 use Rattle.std.proofs.Common.{◌≡◌, ℕ, List, refl}
 use Rattle.br_model.specs.Choice.{Request, choose}
 use Rattle.br_model.specs.Job.{JobRows}
-use Rattle.br_needed.specs.Needed.{needed_for}
-use Rattle.br_needed.proofs.NeededLaws.{chosen_choose_alike}
+use Rattle.br_history.specs.Needed.{needed_for}
+use Rattle.br_history.proofs.NeededLaws.{chosen_choose_alike}
 use Rattle.br_console.proofs.ChoiceAloneLaws.{runs_depend_on_choice_lem}
 use Rattle.br_cli_common.specs.declared.options.FileRows.{FileRows}
 use Rattle.br_cli_common.specs.declared.options.FileRows.TheVariants.{All, Needed}

@@ -2,7 +2,7 @@
 use Rattle.std.specs.Prelude.{◌≡◌, ℕ, ◌&&◌, not, Bool, if◌then◌else◌, List, Option, is_some, IfSome}
 use Rattle.br_model.specs.Choice.{Request, choose}
 use Rattle.br_model.specs.Job.{JobRows}
-use Rattle.br_needed.specs.Needed.{needed_for, with_needed}
+use Rattle.br_history.specs.Needed.{needed_for, with_needed}
 use Rattle.br_cli_common.specs.declared.options.FileRows.{FileRows}
 use Rattle.br_cli_common.specs.declared.options.FileRows.TheVariants.{All, Needed}
 use Rattle.br_console.specs.Running.{begun}

@@ -4,9 +4,8 @@ ghost use Rattle.br_cli_console.specs.LoadedJobs.{AreLoaded, SessionsAlike};
 
 use br_choose::ChooseFault;
 use br_cli_common::FileRows;
-use br_history::History;
+use br_history::{History, Needs, numbers_of};
 use br_keeper::{Catalogue, CatalogueFault};
-use br_needed::{Needs, numbers_of};
 use br_plan::{JobSelection, Request};
 use br_types::JobId;
 use std::alloc::{AllocError, Global};
@@ -19,7 +18,7 @@ pub(crate) struct ChosenFiles<'r> {
 }
 
 impl Needs for ChosenFiles<'_> {
-    ghost use Rattle.br_needed.specs.Needed.{needed_for};
+    ghost use Rattle.br_history.specs.Needed.{needed_for};
 
     ghost needed = { λ c jobs. needed_for c.request.now jobs };
 

@@ -11,3 +11,4 @@ pub mod SpanFitLaws
 pub mod RowFitLaws
 pub mod PlaceLaws
 pub mod PreparingLaws
+pub mod NeededLaws

@@ -10,3 +10,4 @@ pub mod FileLine
 pub mod JobHead
 pub mod JobLine
 pub mod Drafting
+pub mod Needed

@@ -12,8 +12,8 @@ use Rattle.br_model.proofs.AnswerLaws.{refuse_ok}
 use Rattle.br_model.proofs.EntryLaws.{chosen_of_are_jobs}
 use Rattle.br_model.proofs.ListLaws.{all_weaker, contains_filter, kept_passes, of_each}
 use Rattle.br_choose.specs.Wanted.{request_for}
-use Rattle.br_needed.specs.Needed.{Covers, bare, files_if, is_one_of, numbers_in, with_needed}
-use Rattle.br_needed.proofs.NeededLaws.{all_stay, covered_choose_alike, filter_image, has_number, same_numbers}
+use Rattle.br_history.specs.Needed.{Covers, bare, files_if, is_one_of, numbers_in, with_needed}
+use Rattle.br_history.proofs.NeededLaws.{all_stay, covered_choose_alike, filter_image, has_number, same_numbers}
 use Rattle.br_jobs.specs.JobFilter.{is_listed, jobs_listed}
 use Rattle.br_jobs.specs.JobMarks.{chosen_for, marked, marks}
 use Rattle.br_jobs.specs.ListedFiles.{ListsAlike, needed_by}

@@ -1,7 +1,7 @@
 -- The files that a list of jobs needs.
 use Rattle.std.specs.Prelude.{◌≡◌, ℕ, List}
 use Rattle.br_model.specs.Job.{JobRows}
-use Rattle.br_needed.specs.Needed.{numbers_in, with_needed}
+use Rattle.br_history.specs.Needed.{numbers_in, with_needed}
 use Rattle.br_jobs.specs.JobFilter.{jobs_listed}
 use Rattle.br_jobs.specs.JobMarks.{marks}
 use Rattle.br_jobs.specs.declared.job_filter.Filter.{Filter}

@@ -4,8 +4,7 @@ ghost use Rattle.br_jobs.specs.JobFilter.{jobs_listed};
 ghost use Rattle.br_jobs.specs.ListedFiles.{ListsAlike};
 
 use crate::job_filter::Filter;
-use br_history::{History, JobRows};
-use br_needed::{Needs, numbers_of};
+use br_history::{History, JobRows, Needs, numbers_of};
 use br_types::JobId;
 use std::alloc::{AllocError, Global};
 

@@ -1,7 +1,7 @@
 -- Catalogues of jobs, by the paths of the command line.
 use Rattle.std.specs.Prelude.{◌≡◌, ℕ, List, Option, IfSome}
 use Rattle.br_model.specs.Job.{JobRows}
-use Rattle.br_needed.specs.Needed.{with_needed}
+use Rattle.br_history.specs.Needed.{with_needed}
 use Rattle.br_keeper.specs.declared.catalogue.CatalogueFault.{CatalogueFault}
 use Rattle.br_keeper.specs.declared.catalogue.CatalogueFault.TheVariants.{Memory, Unreadable, BadCatalogue, OldCatalogue}
 

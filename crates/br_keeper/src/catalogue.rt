@@ -3,8 +3,7 @@ ghost use Rattle.std.specs.Prelude.{◌≡◌, IfOk, OnOk};
 ghost use Rattle.br_keeper.specs.Catalogue.{AreJobs, AreNeeded, catalogue_number};
 
 use crate::job_store::JobStore;
-use br_history::History;
-use br_needed::Needs;
+use br_history::{History, Needs};
 use thiserror::Error;
 
 /// Why a catalogue was not opened, or its jobs were not loaded.

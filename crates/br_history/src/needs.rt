@@ -1,7 +1,9 @@
+//! The jobs whose files are needed, of a catalogue that has more.
 ghost use Rattle.std.specs.Prelude.{◌≡◌, map, IfOk};
-ghost use Rattle.br_needed.specs.Needed.{numbers_in};
+ghost use Rattle.br_history.specs.Needed.{numbers_in};
 
-use br_history::{History, JobRows};
+use crate::history::History;
+use crate::rows::JobRows;
 use br_types::JobId;
 use std::alloc::{AllocError, Global};
 

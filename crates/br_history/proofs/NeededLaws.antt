@@ -9,7 +9,7 @@ use Rattle.br_model.specs.Job.{JobRows}
 use Rattle.br_model.specs.Choice.{Request, is_good, job_rank, is_after, is_of_client, is_of_fileset, candidates, at_level, last_job, chosen_of, choose}
 use Rattle.br_model.proofs.ListLaws.{contains_map, some_passes, to_each}
 use Rattle.br_model.proofs.OrderLaws.{in_order_map}
-use Rattle.br_needed.specs.Needed.{ChosenChooseAlike, CoveredChooseAlike, Covers, bare, chosen_numbers, files_if, is_one_of, needed_for, numbers_in}
+use Rattle.br_history.specs.Needed.{ChosenChooseAlike, CoveredChooseAlike, Covers, bare, chosen_numbers, files_if, is_one_of, needed_for, numbers_in}
 
 -- ---- lists of images
 
