@@ -43,6 +43,6 @@ pub use look_host::{HostSight, SystemFiles};
 pub use look_mem::MemSight;
 pub use look_sight::{FileTime, Sight, Stamp};
 pub use look_source::Source;
-pub use opening::{create, reopened};
+pub use opening::create;
 pub use store::Store;
 pub use stored_jobs::StoredJobs;

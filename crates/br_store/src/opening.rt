@@ -1,11 +1,10 @@
 //! A database made into a catalogue, or opened as one.
 
-ghost use Rattle.std.specs.Prelude.{◌≡◌, false, None, IsTrue, IfOk, IfErr, OnOk, OnErr};
-ghost use Rattle.sqlite.specs.Held.{state};
+ghost use Rattle.std.specs.Prelude.{◌≡◌, false, None, IsTrue, IfErr, OnOk, OnErr};
 ghost use Rattle.sqlite.specs.State.{IsUnchanged};
 ghost use Rattle.br_catalog_tables.specs.Tables.{no_schema};
 ghost use Rattle.br_store.specs.Calls.{CommitsNothing, IsJustOpened, IsSame, KeepsSettled, MayMake, OnCleanDisk};
-ghost use Rattle.br_store.specs.Calls.{ShowsVersions, StaysIdle, WhileClean};
+ghost use Rattle.br_store.specs.Calls.{ShowsVersions, StaysIdle};
 ghost use Rattle.br_store.specs.Held.{IsCatalogue, versions_in};
 ghost use Rattle.br_catalog_rows.specs.Fault.{IsStoreFault};
 ghost use Rattle.br_store.specs.Made.{Finds, IsMade, IsOpenFault, IsWhy, version_refusal};
@@ -16,7 +15,6 @@ use crate::version::refusal_of;
 use br_catalog_rows::StoreFault;
 use br_catalog_tables::{has_version, is_empty, is_ours};
 use sqlite::{Alter, Connection, Error, ErrorCode};
-use std::alloc::Global;
 
 /// Makes the tables and the row of the version in a database with no table, in one transaction. If
 /// it fails and the database is still open, the database is as before. A crash leaves what it could
@@ -34,27 +32,6 @@ pub fn create<S: Alter>(conn: &mut Connection<S>) -> Result<(), Error>
     let mut tx = conn.transaction();
     make_tables(&mut tx)?;
     tx.commit()
-}
-
-/// Reopens the store of this connection: the same database, just opened, as `Store::open` needs
-/// it. The rows are tested again.
-pub fn reopened<S: Alter + Drop>(
-    alloc: Global,
-    conn: Connection<S>,
-) -> Result<Connection<S>, StoreFault>
-    ensures opened { IfOk result (λ c. IsJustOpened S.Store c) }
-    ensures found { IfOk result (λ c. WhileClean S.Store c (λ is. is.now.trees ≡ (state S.Store conn).committed.trees)) }
-    ensures cause { IfErr result (λ e. IsStoreFault e) }
-{
-    let _schema = conn.schema();
-    let store = conn.into_store();
-    if store.is_broken() {
-        return Err(StoreFault::Store(Error::SqliteFailure(ErrorCode::Closed)));
-    }
-    match Connection::over(alloc, store) {
-        Ok(conn) => Ok(conn),
-        Err((error, _)) => Err(StoreFault::Store(error)),
-    }
 }
 
 /// Returns why a database is refused that lacks one of the catalogue's tables.
