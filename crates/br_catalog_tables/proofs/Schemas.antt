@@ -1,11 +1,11 @@
 -- Schemas that have the catalogue's tables.
-use Rattle.std.proofs.Common.{◌≡◌, ◌==◌, ◌^◌, ℕ, false, nat_le, List, [], ◌∷◌, ◌++◌, drop, length, map, Some, None, codes, slice_get, refl, sym, ap, ap₂, subst, ◌∙◌}
+use Rattle.std.proofs.Common.{◌≡◌, ◌==◌, ◌^◌, ℕ, false, nat_le, List, [], ◌∷◌, ◌++◌, drop, length, map, option_map, Option, Some, None, codes, slice_get, refl, sym, ap, ap₂, subst, ◌∙◌}
 use Rattle.std.specs.List.{position_from}
 use Rattle.sqlite.specs.Schema.{Schema}
 use Rattle.sqlite.specs.Table.{Table}
-use Rattle.sqlite_schema.specs.Names.{column_named, same_name}
+use Rattle.sqlite_schema.specs.Names.{column_named, same_name, table_named}
 use Rattle.br_catalog_tables.specs.SchemaShapes.{Fits, FitsIn, HasShape, column_of, orders_of, own_of, reference_of, table_of, uniques_of}
-use Rattle.br_catalog_tables.specs.KnownSchemas.{Own, Stands, with_own}
+use Rattle.br_catalog_tables.specs.KnownSchemas.{Own, Stands, tree_in, with_own}
 use Rattle.br_catalog_tables.specs.declared.schema_shape.TableShape.{TableShape}
 
 -- what comes after a list is what was appended to it
@@ -59,3 +59,7 @@ stands_in schema s tree place t named is fit = record {
   stored = subst (λ (u : Table). nat_le (2 ^ 31) u.tree ≡ false) fit.0 fit.1.1.0;
   numbered = subst (λ (u : Table). u.key ≡ None → column_named u (codes "rowid") ≡ None) fit.0 fit.1.1.1;
 }
+
+-- a table is in the tree that its name leads to
+pub tree_found : (schema : Schema) (t : Table) → Stands schema t → tree_in schema.tables (table_named schema t.name) ≡ Some t.tree
+tree_found schema t stands = ap (tree_in schema.tables) stands.named ∙ ap (λ (o : Option Table). option_map (λ (u : Table). u.tree) o) stands.is

@@ -1,5 +1,5 @@
 -- Schemas that have the catalogue's tables, perhaps with a user's additions.
-use Rattle.std.specs.Prelude.{◌≡◌, ℕ, ◌^◌, nat_le, false, List, [], ◌++◌, Some, None, codes, ◌==◌, slice_get}
+use Rattle.std.specs.Prelude.{◌≡◌, ℕ, ◌^◌, nat_le, false, List, [], ◌++◌, Option, Some, None, codes, ◌==◌, option_map, slice_get}
 use Rattle.std.specs.List.{position_from}
 use Rattle.sqlite.specs.Table.{Table}
 use Rattle.sqlite.specs.Schema.{Schema}
@@ -70,9 +70,18 @@ no_own = record { columns = []; uniques = []; orders = []; checks = []; referenc
 abbrev pub no_owns : Owns
 no_owns = record { version = no_own; client = no_own; fileset = no_own; media = no_own; path = no_own; job = no_own; job_media = no_own; file = no_own }
 
--- the schema has the table of the version, in some tree and perhaps with columns of the user
+-- the schema has the table of the version in this tree, perhaps with columns of the user
+abbrev pub IsVersionTree : Schema → ℕ → Type 0
+IsVersionTree schema tree = (own : Own) × Stands schema (with_own (version tree) own)
+
+-- the schema has the table of the version, in some tree
 abbrev pub HasVersionTable : Schema → Type 0
-HasVersionTable schema = (tree : ℕ) × (own : Own) × Stands schema (with_own (version tree) own)
+HasVersionTable schema = (tree : ℕ) × IsVersionTree schema tree
+
+-- the tree of the table at a place, if there is one
+abbrev pub tree_in : List Table → Option ℕ → Option ℕ
+tree_in tables None = None
+tree_in tables (Some place) = option_map (λ (t : Table). t.tree) (slice_get tables place)
 
 -- the schema has the catalogue's tables
 abbrev pub IsStoreSchema : Schema → Type 0

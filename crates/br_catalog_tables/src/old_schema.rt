@@ -1,10 +1,11 @@
 //! Where the tables of version 1 are in a schema, in any order, and what a migration leaves of it.
 
-ghost use Rattle.std.specs.Prelude.{◌≡◌, ◌↔◌, ◌⊎◌, IfSome, IsTrue, Some, slice_get, true};
+ghost use Rattle.std.specs.Prelude.{◌≡◌, ◌↔◌, ◌⊎◌, IfSome, IsSome, IsTrue, Some, slice_get, true};
 ghost use Rattle.std.specs.List.{AllByRecursion};
 ghost use Rattle.sqlite_rules.specs.Lists.{Has};
 ghost use Rattle.br_catalog_tables.specs.SchemaShapes.{FitsIn, placed, table_of};
-ghost use Rattle.br_catalog_tables.specs.KnownSchemas.{Stands};
+ghost use Rattle.sqlite_schema.specs.Names.{table_named};
+ghost use Rattle.br_catalog_tables.specs.KnownSchemas.{HasVersionTable, IsVersionTree, Stands, tree_in};
 ghost use Rattle.br_catalog_tables.specs.OldTables.{fits_index, keeps_tree, moved_trees, old_trees, spares_tree};
 ghost use Rattle.br_catalog_tables.specs.OldSchemas.{AreKept, IsApart, IsBeside, IsMovedSchema, IsOldSchema};
 
@@ -249,15 +250,31 @@ fn are_kept(indexes: &[Index], others: &[Index], layout: &OldLayout) -> bool
     }
 }
 
+/// Returns the tree of the table at a place of a schema.
+fn tree_at(schema: &Schema, place: usize) -> Option<u32>
+    ensures { result ≡ tree_in schema.now.tables (Some place) }
+{
+    match schema.tables.as_slice().get(place) {
+        Some(table) => Some(table.tree),
+        None => None,
+    }
+}
+
 /// Returns the tree of the first table with a name.
-fn tree_of(schema: &Schema, name: &[u8]) -> Option<u32> {
-    let place = schema.table_named(name)?;
-    let table = schema.tables.as_slice().get(place)?;
-    Some(table.tree)
+fn tree_of(schema: &Schema, name: &[u8]) -> Option<u32>
+    ensures { result ≡ tree_in schema.now.tables (table_named schema.now name.now) }
+{
+    match schema.table_named(name) {
+        Some(place) => tree_at(schema, place),
+        None => None,
+    }
 }
 
 /// Returns the tree of the table of the version, if a schema has it (`has_version`).
-pub fn version_tree(schema: &Schema) -> Option<u32> {
+pub fn version_tree(schema: &Schema) -> Option<u32>
+    ensures found { IfSome result (IsVersionTree schema.now) }
+    ensures known { HasVersionTable schema.now → IsSome result }
+{
     if !has_version(schema) {
         return None;
     }

@@ -53,12 +53,12 @@ has_tables db schema sound rising =
 -- a sound database with the table of the version, if its rows ascend
 pub has_versions : (db : Database) → HasVersionTable db.schema → IsDatabase db → AreRising db → HasVersions db
 has_versions db h sound rising =
-    let t = with_own (version h.0) h.1 in
-    let now = sym (version_is h.0 h.1 db h.2 sound) in
+    let t = with_own (version h.0) h.1.0 in
+    let now = sym (version_is h.0 h.1.0 db h.1.1 sound) in
     record {
-      own = h.1;
-      table = subst (λ (n : ℕ). Stands db.schema (with_own (version n) h.1)) now h.2;
-      shaped = subst (λ (n : ℕ). IsShaped Table (db.trees n)) now (all_has (λ (u : Declared). IsShaped Table (db.trees u.tree)) db.schema.tables t rising (has_table db.schema t h.2));
+      own = h.1.0;
+      table = subst (λ (n : ℕ). Stands db.schema (with_own (version n) h.1.0)) now h.1.1;
+      shaped = subst (λ (n : ℕ). IsShaped Table (db.trees n)) now (all_has (λ (u : Declared). IsShaped Table (db.trees u.tree)) db.schema.tables t rising (has_table db.schema t h.1.1));
     }
 
 -- a catalogue has it
