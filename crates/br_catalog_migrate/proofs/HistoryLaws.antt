@@ -17,10 +17,14 @@ first_is : (jobs spans : List Row) → read_history (bare jobs spans) ≡ read_l
 unfolding read_history check_first
 first_is jobs spans = refl
 
+-- rows with version 2 and no file are read as those of jobs and spans
+pub read_without : (rows : Rows) → rows.versions ≡ (Int (pos 2) ∷ []) ∷ [] → rows.files ≡ [] → read_history rows ≡ read_loaded rows.jobs rows.spans []
+read_without rows version none =
+    let is : rows ≡ bare rows.jobs rows.spans = ap₂ (λ (v f : List Row). record rows { versions = v; files = f }) version none in
+    ap read_history is ∙ first_is rows.jobs rows.spans
+
 -- a history is made of rows with version 2 and no file
 pub loaded_of : (result : Result (List JobRows) RowsFault) (rows : Rows) → rows.versions ≡ (Int (pos 2) ∷ []) ∷ [] → rows.files ≡ [] → Answers (λ h. h) rows_cause result (read_history rows)
     → IfOk result (λ h. read_loaded rows.jobs rows.spans [] ≡ Ok h)
 loaded_of (Err e) rows version none a = tt
-loaded_of (Ok h) rows version none a =
-    let is : rows ≡ bare rows.jobs rows.spans = ap₂ (λ (v f : List Row). record rows { versions = v; files = f }) version none in
-    sym (first_is rows.jobs rows.spans) ∙ sym (ap read_history is) ∙ a
+loaded_of (Ok h) rows version none a = sym (read_without rows version none) ∙ a

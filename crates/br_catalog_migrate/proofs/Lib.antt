@@ -1,6 +1,7 @@
 pub mod CursorLaws
 pub mod DigestLaws
 pub mod FileLaws
+pub mod FormLaws
 pub mod HistoryLaws
 pub mod KeptLaws
 pub mod MigrateLaws
@@ -12,6 +13,8 @@ pub mod RenewLaws
 pub mod SoundLaws
 pub mod StepLaws
 pub mod TakenLaws
+pub mod TakeLaws
+pub mod RefusedLaws
 pub mod WholeLaws
 pub mod RawFolds
 pub mod TreeLaws

@@ -42,11 +42,11 @@ shaped_moved : (names rows : List Row) → IsShaped Shaped rows → IsShaped Sha
 shaped_moved names rows up = (table_moved names rows up.0, all_moved (λ v. IsTrue (is_int v)) names rows up.1)
 
 -- the rows of version 1, by the trees in which its tables are
-abbrev loaded_rows : OldLayout → Trees → Rows
+abbrev pub loaded_rows : OldLayout → Trees → Rows
 loaded_rows l old = record (rows_at (moved_layout l) old) { files = map (shown_row (old l.path) (old l.filename)) (old l.file) }
 
 module _ (schema : Schema) (l : OldLayout) (old : Trees) (has : HasOld l (database schema old)) where
-  old_rows : old_rows_in old ≡ loaded_rows l old
+  pub old_rows : old_rows_in old ≡ loaded_rows l old
   old_rows =
       let layout = old_layout l (database schema old) has in
       let names : tree_named old (codes "Filename") ≡ l.filename = old_names l (database schema old) has in

@@ -5,6 +5,8 @@ use Rattle.sqlite_trees.specs.View.{View, IsClean}
 use Rattle.sqlite_trees.specs.declared.store.Store.{Ghosts}
 use Rattle.sqlite_exec.specs.Loops.{left_of}
 use Rattle.sqlite_catalog.proofs.QuietLemmas.{quiet_then}
+use Rattle.sqlite_rules.specs.Lists.{Has}
+use Rattle.sqlite_rules.proofs.ListLemmas.{has_right}
 use Rattle.br_catalog_migrate.specs.MigrationSteps.{CommitsNothing, GoesOn, KeepsLast, Reads, Starts}
 
 pub last_then : (a b c : View) → KeepsLast a b → KeepsLast b c → KeepsLast a c
@@ -43,6 +45,13 @@ take_next start a b tree done row taken next = record {
   left = append_assoc done (row ∷ []) (left_of b 0) ∙ ap (λ (l : List Row). done ++ l) (sym next.gives) ∙ taken.left;
 }
 
+-- a row that is taken is one of the tree
+pub row_around : (start a b : View) (tree : ℕ) (done : List Row) (row : Row) → AreTaken start a tree done → GoesOn a b row true → done ++ row ∷ left_of b 0 ≡ start.trees tree
+row_around start a b tree done row taken next = ap (λ (l : List Row). done ++ l) (sym next.gives) ∙ taken.left
+
+pub row_has : (start a b : View) (tree : ℕ) (done : List Row) (row : Row) → AreTaken start a tree done → GoesOn a b row true → Has (start.trees tree) row
+row_has start a b tree done row taken next = subst (λ (l : List Row). Has l row) (row_around start a b tree done row taken next) (has_right done (row ∷ left_of b 0) row (inl refl))
+
 pub take_all : (start a b : View) (tree : ℕ) (done : List Row) (row : Row) → AreTaken start a tree done → GoesOn a b row false → (Reads start b) × (done ≡ start.trees tree)
 take_all start a b tree done row taken last = (
   reads_then start a b taken.reads last.reads,
@@ -69,3 +78,10 @@ only_row a b c d tree row more first next last = (
   reads_then a b d first.reads (reads_then b c d next.reads last.reads),
   sym first.left ∙ next.gives ∙ ap (λ (l : List Row). row ∷ l) last.gives,
 )
+
+-- the cursor gave the first row of the tree, or the tree has none
+pub some_row : (a b c : View) (tree : ℕ) (row : Row) → Starts a b tree → GoesOn b c row true → a.trees tree ≡ row ∷ left_of c 0
+some_row a b c tree row first next = sym first.left ∙ next.gives
+
+pub no_row : (a b c : View) (tree : ℕ) (row : Row) → Starts a b tree → GoesOn b c row false → a.trees tree ≡ []
+no_row a b c tree row first next = sym first.left ∙ next.gives

@@ -17,7 +17,7 @@ use Rattle.br_catalog_migrate.proofs.WholeLaws.{one_more}
 abbrev cells_of : OldFile → List ℕ → List ℕ → Row
 cells_of file front rest = file_cells file.numbers.job file.numbers.index front rest file.lstat.now file.digest.now
 
-shown_is : (paths names : List Row) (row : Row) (file : OldFile) (front rest : List ℕ) → IsOldFile file row → Blob front ≡ name_at paths (Int file.numbers.path) → Blob rest ≡ name_at names (Int file.numbers.name)
+pub shown_is : (paths names : List Row) (row : Row) (file : OldFile) (front rest : List ℕ) → IsOldFile file row → Blob front ≡ name_at paths (Int file.numbers.path) → Blob rest ≡ name_at names (Int file.numbers.name)
     → shown_row paths names row ≡ cells_of file front rest
 shown_is paths names row file front rest is path name =
     let index : column row 2 ≡ Int (pos file.numbers.index) = ap (λ (l : Row). column l 1) is.numbers in

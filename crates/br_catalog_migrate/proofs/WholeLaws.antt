@@ -101,10 +101,10 @@ module _ (old new : BTreeMap ℕ Indexes) (shown : List Row) (s : Row) (job : �
 same_true : (a x y c d e : Bool) → (a && true && true && c && d && e) ≡ true → x ≡ true → y ≡ true → (a && x && y && c && d && e) ≡ true
 same_true a x y c d e h p q = rw (p, q) h
 
-abbrev bare : JobRow → List Span → JobRows
+abbrev pub bare : JobRow → List Span → JobRows
 bare j spans = record { row = j; files = []; spans = spans }
 
-abbrev filled : JobRow → List FileRow → List Span → JobRows
+abbrev pub filled : JobRow → List FileRow → List Span → JobRows
 filled j files spans = record { row = j; files = files; spans = spans }
 
 are_filled : (j : JobRow) (files : List FileRow) (spans : List Span) → are_rows (bare j spans) ≡ true → list_all is_file_row files ≡ true → no_pair same_file files ≡ true
@@ -113,10 +113,10 @@ unfolding are_rows no_pair
 are_filled j files spans h valid apart = same_true _ _ _ _ _ _ h valid apart
 
 -- files that can be those of one job
-abbrev AreGrouped : List Row → Type 0
+abbrev pub AreGrouped : List Row → Type 0
 AreGrouped rows = (files : List FileRow) × (read_all read_file rows ≡ Ok files) × (list_all is_file_row files ≡ true) × (no_pair same_file files ≡ true)
 
-abbrev no_files : ℕ → List Row
+abbrev pub no_files : ℕ → List Row
 no_files id = []
 
 -- a job that is read without its files is read with them
@@ -137,7 +137,7 @@ with_files spans groups j r g h = one (read_all read_span (spans j.id)) refl h
             let fits = are_filled j g.0 (by_number s) good g.2 g.3 in
             (filled j g.0 (by_number s), rw (is, g.1, fits) refl, ap (λ (x : JobRows). x.row) it, sym (ap (λ (x : JobRows). x.row) it))
 
-abbrev rows_of : List JobRows → List JobRow
+abbrev pub rows_of : List JobRows → List JobRow
 rows_of jobs = map (λ (j : JobRows). j.row) jobs
 
 abbrev AllFilled : (ℕ → List Row) → (ℕ → List Row) → List JobRow → List JobRows → Type 0
@@ -165,60 +165,65 @@ all_with_files spans groups g (j ∷ jobs) whole h =
 
 -- ---- jobs that are apart
 
-abbrev rows_clash : JobRow → JobRow → Bool
+abbrev pub rows_clash : JobRow → JobRow → Bool
 rows_clash j k = j.id == k.id || same_session j.session k.session
 
 any_row : (j : JobRows) (jobs : List JobRows) → list_any (clash j) jobs ≡ list_any (rows_clash j.row) (rows_of jobs)
 any_row j [] = refl
 any_row j (k ∷ jobs) = ap (λ b. clash j k || b) (any_row j jobs)
 
-apart_by_rows : (jobs : List JobRows) → no_pair clash jobs ≡ no_pair rows_clash (rows_of jobs)
+pub apart_by_rows : (jobs : List JobRows) → no_pair clash jobs ≡ no_pair rows_clash (rows_of jobs)
 unfolding no_pair
 apart_by_rows [] = refl
 apart_by_rows (j ∷ jobs) = ap₂ (λ a b. not a && b) (any_row j jobs) (apart_by_rows jobs)
 
 -- ---- the whole
 
-record ReadParts (jobs : List Row) (spans : List Row) (whole : List JobRows) : Type 0 where
-  rows : List JobRow
-  groups : ℕ → List Row
-  are_jobs : read_all read_job jobs ≡ Ok rows
-  are_spans : by_job rows spans ≡ Ok groups
-  are_whole : read_all (read_rows groups no_files) rows ≡ Ok whole
-  apart : no_pair clash whole ≡ true
+-- the rows that belong to each job
+abbrev pub rows_by : List Row → ℕ → List Row
+rows_by rows = λ id. filter (is_of id) rows
 
-parts : (jobs spans : List Row) (whole : List JobRows) → read_loaded jobs spans [] ≡ Ok whole → ReadParts jobs spans whole
+pub record ReadParts (jobs spans files : List Row) (whole : List JobRows) : Type 0 where
+  pub rows : List JobRow
+  pub are_jobs : read_all read_job jobs ≡ Ok rows
+  pub spans_belong : list_all (load.has_job rows) spans ≡ true
+  pub files_belong : list_all (load.has_job rows) files ≡ true
+  pub are_whole : read_all (read_rows (rows_by spans) (rows_by files)) rows ≡ Ok whole
+  pub apart : no_pair clash whole ≡ true
+
+pub parts : (jobs spans files : List Row) (whole : List JobRows) → read_loaded jobs spans files ≡ Ok whole → ReadParts jobs spans files whole
 unfolding read_loaded by_job if_apart
-parts jobs spans whole h = one (read_all read_job jobs) refl h
+parts jobs spans files whole h = one (read_all read_job jobs) refl
   where
-    one : (q : Result (List JobRow) ℕ) → read_all read_job jobs ≡ q
-        → (q >>= λ js. by_job js spans >>= λ s. by_job js [] >>= λ f. read_all (read_rows s f) js >>= λ w. if_apart w) ≡ Ok whole → ReadParts jobs spans whole
-    one (Err e) is h = absurd cc
-    one (Ok js) is h = two (by_job js spans) refl h
+    one : (q : Result (List JobRow) ℕ) → read_all read_job jobs ≡ q → ReadParts jobs spans files whole
+    one (Err e) is = absurd (let bad = rw is at h in cc)
+    one (Ok js) is = two (list_all (load.has_job js) spans) (list_all (load.has_job js) files) refl refl
       where
-        two : (q : Result (ℕ → List Row) ℕ) → by_job js spans ≡ q → (q >>= λ s. read_all (read_rows s no_files) js >>= λ w. if_apart w) ≡ Ok whole → ReadParts jobs spans whole
-        two (Err e) spans_are h = absurd cc
-        two (Ok s) spans_are h = three (read_all (read_rows s no_files) js) refl h
+        two : (a b : Bool) → list_all (load.has_job js) spans ≡ a → list_all (load.has_job js) files ≡ b → ReadParts jobs spans files whole
+        two false b s f = absurd (let bad = rw (is, s) at h in cc)
+        two true false s f = absurd (let bad = rw (is, s, f) at h in cc)
+        two true true s f = three (read_all (read_rows (rows_by spans) (rows_by files)) js) refl
           where
-            three : (q : Result (List JobRows) ℕ) → read_all (read_rows s no_files) js ≡ q → (q >>= λ w. if_apart w) ≡ Ok whole → ReadParts jobs spans whole
-            three (Err e) all_are h = absurd cc
-            three (Ok w) all_are h = four (no_pair clash w) refl h
+            three : (q : Result (List JobRows) ℕ) → read_all (read_rows (rows_by spans) (rows_by files)) js ≡ q → ReadParts jobs spans files whole
+            three (Err e) all_are = absurd (let bad = rw (is, s, f, all_are) at h in cc)
+            three (Ok w) all_are = four (no_pair clash w) refl
               where
-                four : (b : Bool) → no_pair clash w ≡ b → ◌≡◌ {A = Result (List JobRows) ℕ} (cond b (Ok w) (Err 47)) (Ok whole) → ReadParts jobs spans whole
-                four false bad h = absurd cc
-                four true good h =
+                four : (b : Bool) → no_pair clash w ≡ b → ReadParts jobs spans files whole
+                four false bad = absurd (let wrong = rw (is, s, f, all_are, bad) at h in cc)
+                four true good =
+                    let all : ◌≡◌ {A = Result (List JobRows) ℕ} (Ok w) (Ok whole) = rw (is, s, f, all_are, good) at h in
                     let it : w ≡ whole = cc in
-                    record { rows = js; groups = s; are_jobs = is; are_spans = spans_are; are_whole = all_are ∙ ap Ok it; apart = sym (ap (no_pair clash) it) ∙ good }
+                    record { rows = js; are_jobs = is; spans_belong = s; files_belong = f; are_whole = all_are ∙ ap Ok it; apart = sym (ap (no_pair clash) it) ∙ good }
 
 -- A history whose jobs were read without files is read with them, once each row was tested. It has as many jobs.
 pub read_with_files : (jobs spans files : List Row) (whole : List JobRows) (seen : BTreeMap ℕ Indexes) → read_loaded jobs spans [] ≡ Ok whole → AreWhole (rows_of whole) seen files
     → (all : List JobRows) × (read_loaded jobs spans files ≡ Ok all) × (length all ≡ length whole)
 unfolding read_loaded by_job if_apart
 read_with_files jobs spans files whole seen h w =
-    let p = parts jobs spans whole h in
+    let p = parts jobs spans [] whole h in
     let groups = λ (id : ℕ). filter (is_of id) files in
     let grouped : (id : ℕ) → AreGrouped (groups id) = λ id. ((w.files id).files, (w.files id).read, (w.files id).valid, (w.files id).apart) in
-    let all = all_with_files p.groups groups grouped p.rows whole p.are_whole in
+    let all = all_with_files (rows_by spans) groups grouped p.rows whole p.are_whole in
     let dealt : list_all (load.has_job p.rows) files ≡ true = ap (λ js. list_all (load.has_job js) files) (sym all.3) ∙ w.belong in
     let apart : no_pair clash all.0 ≡ true = apart_by_rows all.0 ∙ ap (no_pair rows_clash) all.2 ∙ sym (apart_by_rows whole) ∙ p.apart in
-    (all.0, rw (p.are_jobs, p.are_spans, dealt, all.1, apart) refl, sym (length-map all.0 (λ (j : JobRows). j.row)) ∙ ap length all.2 ∙ length-map whole (λ (j : JobRows). j.row))
+    (all.0, rw (p.are_jobs, p.spans_belong, dealt, all.1, apart) refl, sym (length-map all.0 (λ (j : JobRows). j.row)) ∙ ap length all.2 ∙ length-map whole (λ (j : JobRows). j.row))

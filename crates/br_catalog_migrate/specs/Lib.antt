@@ -5,6 +5,7 @@ pub mod Moved
 pub mod OldNames
 pub mod Old
 pub mod OldRead
+pub mod Refusals
 pub mod Renewed
 pub mod SeenIndexes
 pub mod Sound

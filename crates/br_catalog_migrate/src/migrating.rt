@@ -6,6 +6,7 @@ ghost use Rattle.sqlite_trees.specs.View.{IsClean};
 ghost use Rattle.br_catalog_migrate.specs.Claims.{CountsJobs, WritesNew};
 ghost use Rattle.br_catalog_migrate.specs.Moved.{HasMigrated, IsKept, IsMoved, HasSameTrees, KeepsUnlessFailed, LeavesOnly, MayMove, Survives};
 ghost use Rattle.br_catalog_migrate.specs.OldRead.{IsReadOld};
+ghost use Rattle.br_catalog_migrate.specs.Refusals.{FormHistory, IsOldHistory, IsOther, RefusesRows};
 ghost use Rattle.br_catalog_migrate.specs.MigrationSteps.{CommitsNothing, KeepsLast, OnCleanStore, Reads};
 
 use crate::new_tables::{put_files, put_version, replace_tables};
@@ -13,7 +14,7 @@ use crate::old_files::{OldFiles, read_files};
 use crate::old_history::load_jobs;
 use crate::old_names::{NameTable, read_names};
 use crate::old_version::{OldSchema, are_tables, check_new, find_old, read_version};
-use crate::tree_cursor::fault_of;
+use crate::tree_cursor::{damaged, fault_of};
 use br_catalog_rows::StoreFault;
 use br_catalog_tables::OldLayout;
 use sqlite_trees::store::{Alter, Store};
@@ -33,11 +34,12 @@ pub(crate) struct Old {
 fn read_old<S: Alter>(alloc: Global, store: &mut S, layout: &OldLayout) -> Result<Old, StoreFault>
     requires { IsClean (S.Store.view store.old) → (S.Store.view store.old).is_broken ≡ false }
     ensures old { OnCleanStore S.Store store.old store.new (λ before after. IfOk result (λ old. IsReadOld layout.now old before.trees)) }
+    ensures other { OnCleanStore S.Store store.old store.new (λ old new. FormHistory layout.now old.trees → IfErr result IsOther) }
     ensures reads { OnCleanStore S.Store store.old store.new (λ old new. OnOk result (Reads old new)) }
     ensures kept { CommitsNothing S.Store store.old store.new }
 {
     if !are_tables(store, layout) {
-        return Err(StoreFault::BadCatalogue);
+        return Err(damaged());
     }
     let version = read_version(alloc, store, layout.version)?;
     let history = load_jobs(alloc, store, layout)?;
@@ -61,6 +63,7 @@ fn write_new<S: Alter>(
 ) -> Result<(), StoreFault>
     requires numbered { IsClean (S.Store.view store.old) → IsTrue (S.Store.view store.old).is_numbered }
     ensures written { OnCleanStore S.Store store.old store.new (λ before after. OnOk result (WritesNew tables.now old.now before after)) }
+    ensures other { IfErr result IsOther }
     ensures kept { CommitsNothing S.Store store.old store.new }
 {
     let layout = &tables.layout;
@@ -75,6 +78,7 @@ fn write_new<S: Alter>(
 fn rewrite<S: Alter>(alloc: Global, store: &mut S) -> Result<u64, StoreFault>
     requires { IsClean (S.Store.view store.old) → IsFresh (S.Store.view store.old) }
     ensures moved { OnCleanStore S.Store store.old store.new (λ old new. IfOk result (IsMoved old new)) }
+    ensures other { OnCleanStore S.Store store.old store.new (λ old new. IsOldHistory old.trees → IfErr result IsOther) }
     ensures kept { CommitsNothing S.Store store.old store.new }
 {
     let tables = find_old(alloc, store)?;
@@ -87,6 +91,7 @@ fn rewrite<S: Alter>(alloc: Global, store: &mut S) -> Result<u64, StoreFault>
 fn move_all<S: Alter>(alloc: Global, store: &mut S) -> Result<u64, StoreFault>
     requires { IsClean (S.Store.view store.old) → IsFresh (S.Store.view store.old) }
     ensures moved { OnCleanStore S.Store store.old store.new (λ old new. IfOk result (IsKept old new)) }
+    ensures other { OnCleanStore S.Store store.old store.new (λ old new. IsOldHistory old.trees → IfErr result IsOther) }
     ensures failed { OnCleanStore S.Store store.old store.new (λ old new. OnErr result (KeepsLast old new)) }
     ensures crash { MayMove S.Store store.old store.new }
     ensures unchanged { IfErr result (KeepsUnlessFailed S.Store store.old store.new) }
@@ -100,10 +105,11 @@ fn move_all<S: Alter>(alloc: Global, store: &mut S) -> Result<u64, StoreFault>
 
 /// Migrates a catalogue from version 1 to version 2, in one transaction: a row of File gets the
 /// name of its file, and the table of names is dropped. Returns the number of jobs. Afterwards the
-/// rows form the history that the rows of version 1 formed (`jobs`). A crash during the call leaves
-/// what it could leave before, or all of version 2 (`crash`); a crash after `Ok` leaves version 2
-/// (`durable`), and one after a refusal other than `Store` what it could leave before
-/// (`unchanged`).
+/// rows form the history that the rows of version 1 formed (`jobs`). `BadCatalogue` never refuses a
+/// sound catalogue of version 1 whose rows form a history and refer to one another by integers
+/// (`why`). A crash during the call leaves what it could leave before, or all of version 2
+/// (`crash`); a crash after `Ok` leaves version 2 (`durable`), and one after a refusal other than
+/// `Store` what it could leave before (`unchanged`).
 ///
 /// # Errors
 ///
@@ -116,6 +122,7 @@ pub fn migrate<S: Alter>(alloc: Global, store: &mut S) -> Result<u64, StoreFault
     requires { IsClean (S.Store.view store.old) → IsFresh (S.Store.view store.old) }
     ensures migrated { OnCleanStore S.Store store.old store.new (λ old new. OnOk result (HasMigrated old new)) }
     ensures jobs { OnCleanStore S.Store store.old store.new (λ old new. IfOk result (CountsJobs old.trees new.trees)) }
+    ensures why { OnCleanStore S.Store store.old store.new (λ old new. IfErr result (RefusesRows old.trees)) }
     ensures refused { OnCleanStore S.Store store.old store.new (λ old new. IsTrue new.is_open
         → OnErr result (HasSameTrees old new)) }
     ensures fresh { OnCleanStore S.Store store.old store.new (λ old new. IsTrue new.is_open → IsFresh new) }

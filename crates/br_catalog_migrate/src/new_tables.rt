@@ -1,6 +1,6 @@
 //! The tables of version 2 in place of those of version 1, in a transaction that a caller commits.
 
-ghost use Rattle.std.specs.Prelude.{◌≡◌, ◌≢◌, ◌∷◌, [], pos, codes, false, map, IsTrue, OnOk};
+ghost use Rattle.std.specs.Prelude.{◌≡◌, ◌≢◌, ◌∷◌, [], pos, codes, false, map, IsTrue, IfErr, OnOk};
 ghost use Rattle.std.specs.List.{AllByRecursion};
 ghost use Rattle.sqlite_value.specs.declared.value.Value.TheVariants.{Int, Text};
 ghost use Rattle.sqlite.specs.Order.{column};
@@ -8,13 +8,14 @@ ghost use Rattle.sqlite_trees.specs.Objects.{Destroys};
 ghost use Rattle.sqlite_trees.specs.Tree.{IsTable, put_row, rowid};
 ghost use Rattle.sqlite_trees.specs.View.{IsClean, SetsTree, is_int};
 ghost use Rattle.br_catalog_migrate.specs.Claims.{PutsFiles};
+ghost use Rattle.br_catalog_migrate.specs.Refusals.{IsOther};
 ghost use Rattle.br_catalog_migrate.specs.Renewed.{MakesFile, Replaces};
 ghost use Rattle.br_catalog_migrate.specs.MigrationSteps.{CommitsNothing, OnCleanStore};
 
 use crate::old_files::OldFiles;
 use crate::old_names::NameTable;
 use crate::old_version::version_row;
-use crate::tree_cursor::fault_of;
+use crate::tree_cursor::{damaged, fault_of};
 use br_catalog_rows::StoreFault;
 use br_catalog_tables::OldLayout;
 use sqlite_trees::schema::Object;
@@ -31,15 +32,16 @@ const CREATE_FILE: &str =
 /// The last tree that the list of objects can tell.
 const LAST_TREE: u32 = 65_535;
 
-/// Inserts a row into a table. `BadCatalogue` if the tree is not a table.
+/// Inserts a row into a table. A failure of the store if the tree is not a table.
 fn put_in<S: Store>(store: &mut S, tree: u32, row: &Row) -> Result<(), StoreFault>
     requires keyed { IsTrue (is_int (rowid row.now)) }
     ensures put { OnCleanStore S.Store store.old store.new (λ old new. OnOk result (SetsTree old new tree (put_row row.now))) }
+    ensures other { IfErr result IsOther }
     ensures kept { CommitsNothing S.Store store.old store.new }
 {
     match store.shape(tree) {
         Shape::Table => {}
-        _ => return Err(StoreFault::BadCatalogue),
+        _ => return Err(damaged()),
     }
     match store.put(tree, row) {
         Ok(()) => Ok(()),
@@ -47,16 +49,17 @@ fn put_in<S: Store>(store: &mut S, tree: u32, row: &Row) -> Result<(), StoreFaul
     }
 }
 
-/// Frees a tree, and removes it from the list of objects. `BadCatalogue` if it is no
+/// Frees a tree, and removes it from the list of objects. A failure of the store if it is no
 /// table or index.
 fn drop_tree<S: Alter>(store: &mut S, tree: u32) -> Result<(), StoreFault>
     requires numbered { IsClean (S.Store.view store.old) → IsTrue (S.Store.view store.old).is_numbered }
     ensures dropped { OnCleanStore S.Store store.old store.new (λ old new. OnOk result (Destroys old new tree)) }
+    ensures other { IfErr result IsOther }
     ensures kept { CommitsNothing S.Store store.old store.new }
 {
     match store.shape(tree) {
         Shape::Table | Shape::Index(_) => {}
-        _ => return Err(StoreFault::BadCatalogue),
+        _ => return Err(damaged()),
     }
     match store.destroy(tree) {
         Ok(()) => Ok(()),
@@ -73,20 +76,21 @@ fn has_file(objects: &[Row]) -> bool
         .any(|object| is_same(object.get(2), ValueRef::Text(b"File")))
 }
 
-/// Makes the table of files of version 2 in this tree. `BadCatalogue` if the tree or the name is not
-/// free.
+/// Makes the table of files of version 2 in this tree. A failure of the store if the tree or the
+/// name is not free.
 fn make_file<S: Alter>(alloc: Global, store: &mut S, tree: u32) -> Result<(), StoreFault>
     requires numbered { IsClean (S.Store.view store.old) → IsTrue (S.Store.view store.old).is_numbered }
     ensures made { OnCleanStore S.Store store.old store.new (λ old new. OnOk result (MakesFile tree old new)) }
+    ensures other { IfErr result IsOther }
     ensures kept { CommitsNothing S.Store store.old store.new }
 {
     if tree > LAST_TREE {
-        return Err(StoreFault::BadCatalogue);
+        return Err(damaged());
     }
     let objects = store.objects(alloc)?;
     match store.shape(tree) {
         Shape::Absent if !has_file(&objects) => {}
-        _ => return Err(StoreFault::BadCatalogue),
+        _ => return Err(damaged()),
     }
     let file = Object {
         shape: Shape::Table,
@@ -112,6 +116,7 @@ pub(crate) fn replace_tables<S: Alter>(
 ) -> Result<(), StoreFault>
     requires numbered { IsClean (S.Store.view store.old) → IsTrue (S.Store.view store.old).is_numbered }
     ensures replaced { OnCleanStore S.Store store.old store.new (λ old new. OnOk result (Replaces layout.now old new)) }
+    ensures other { IfErr result IsOther }
     ensures kept { CommitsNothing S.Store store.old store.new }
 {
     drop_tree(store, layout.file)?;
@@ -129,6 +134,7 @@ pub(crate) fn put_files<S: Store>(
     names: &NameTable,
 ) -> Result<(), StoreFault>
     ensures put { OnCleanStore S.Store store.old store.new (λ old new. OnOk result (PutsFiles tree files.now names.now old new)) }
+    ensures other { IfErr result IsOther }
     ensures kept { CommitsNothing S.Store store.old store.new }
 {
     let mut row = Row::new(alloc);
@@ -148,6 +154,7 @@ pub(crate) fn put_version<S: Store>(
 ) -> Result<(), StoreFault>
     ensures put { OnCleanStore S.Store store.old store.new (λ old new. OnOk result
         (SetsTree old new tree (put_row (Int id ∷ Int (pos 2) ∷ [])))) }
+    ensures other { IfErr result IsOther }
     ensures kept { CommitsNothing S.Store store.old store.new }
 {
     let row = version_row(alloc, id, 2)?;

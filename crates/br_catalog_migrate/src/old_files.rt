@@ -1,6 +1,6 @@
 //! The rows of File of version 1, read and tested.
 
-ghost use Rattle.std.specs.Prelude.{◌≡◌, ◌++◌, ◌∷◌, [], ◌==◌, ◌||◌, true, map, pos, length, is_ok, IsTrue, IfOk, IfSome, OnOk};
+ghost use Rattle.std.specs.Prelude.{◌≡◌, ◌++◌, ◌∷◌, [], ◌==◌, ◌||◌, true, map, pos, length, is_ok, ◌<◌, ◌^◌, ℕ, ℤ, List, IsSome, IsTrue, IfErr, IfOk, IfSome, OnOk};
 ghost use Rattle.sqlite_value.specs.declared.value.Value.TheVariants.{Int, Text};
 ghost use Rattle.sqlite_trees.specs.Tree.{IsTable, rowid};
 ghost use Rattle.sqlite_trees.specs.View.{IsClean, is_int};
@@ -12,6 +12,7 @@ ghost use Rattle.std.specs.Str.{is_utf8};
 ghost use Rattle.br_catalog_migrate.specs.Claims.{CanBelong, CanMove, IsMovedAt, TakesFile};
 ghost use Rattle.br_catalog_migrate.specs.OldFiles.{AreFiles, IsOldFile, IsWholeFile, moved_row};
 ghost use Rattle.br_catalog_migrate.specs.OldNames.{AreNames};
+ghost use Rattle.br_catalog_migrate.specs.Refusals.{CanTake, CanTakeAll, IsOther, IsTypedFile};
 ghost use Rattle.br_catalog_migrate.specs.Sound.{IsMovedRow};
 ghost use Rattle.br_catalog_migrate.specs.MigrationSteps.{CommitsNothing, OnCleanStore, Reads};
 ghost use Rattle.br_catalog_migrate.specs.WholeMigration.{AreWhole};
@@ -19,7 +20,7 @@ ghost use Rattle.br_catalog_migrate.specs.WholeMigration.{AreWhole};
 use crate::old_digest::is_digest;
 use crate::old_names::NameTable;
 use crate::seen_indexes::{Indexes, no_indexes, note};
-use crate::tree_cursor::{start, step};
+use crate::tree_cursor::{damaged, start, step};
 use br_attr::Stat;
 use br_catalog_rows::StoreFault;
 use br_history::JobRows;
@@ -50,7 +51,8 @@ pub(crate) struct OldFile<'a> {
 
 /// Returns the integer in a column.
 fn int_at(row: &Row, at: usize) -> Option<i64>
-    ensures { IfSome result (λ n. column row.now at ≡ Int n) }
+    ensures value { IfSome result (λ n. column row.now at ≡ Int n) }
+    ensures known { (n : ℤ) → column row.now at ≡ Int n → IsSome result }
 {
     match row.get(at) {
         ValueRef::Int(number) => Some(number),
@@ -60,14 +62,16 @@ fn int_at(row: &Row, at: usize) -> Option<i64>
 
 /// Returns the number of 32 bits in a column.
 fn small_at(row: &Row, at: usize) -> Option<u32>
-    ensures { IfSome result (λ n. column row.now at ≡ Int (pos n)) }
+    ensures value { IfSome result (λ n. column row.now at ≡ Int (pos n)) }
+    ensures known { (n : ℕ) → n < 2 ^ 32 → column row.now at ≡ Int (pos n) → IsSome result }
 {
     u32::try_from(int_at(row, at)?).ok()
 }
 
 /// Returns the text in a column.
 fn text_at(row: &Row, at: usize) -> Option<&[u8]>
-    ensures { IfSome result (λ t. column row.now at ≡ Text t.now) }
+    ensures value { IfSome result (λ t. column row.now at ≡ Text t.now) }
+    ensures known { (t : List ℕ) → column row.now at ≡ Text t → IsSome result }
 {
     match row.get(at) {
         ValueRef::Text(bytes) => Some(bytes),
@@ -77,7 +81,8 @@ fn text_at(row: &Row, at: usize) -> Option<&[u8]>
 
 /// Returns the values of a row of File, if they have the types of their columns.
 fn old_file(row: &Row) -> Option<OldFile<'_>>
-    ensures { IfSome result (λ file. IsOldFile file row.now) }
+    ensures values { IfSome result (λ file. IsOldFile file row.now) }
+    ensures known { IsTypedFile row.now → IsSome result }
 {
     let numbers = FileNumbers {
         id: int_at(row, 0)?,
@@ -95,7 +100,8 @@ fn old_file(row: &Row) -> Option<OldFile<'_>>
 
 /// Returns `BadCatalogue` unless the two parts make a path. `buffer` is used again.
 fn check_path(buffer: &mut Vec<u8>, front: &[u8], rest: &[u8]) -> Result<(), StoreFault>
-    ensures { OnOk result (is_path (front.now ++ rest.now) ≡ true) }
+    ensures path { OnOk result (is_path (front.now ++ rest.now) ≡ true) }
+    ensures other { is_path (front.now ++ rest.now) ≡ true → IfErr result IsOther }
 {
     buffer.clear();
     buffer.extend_from_slice(front)?;
@@ -130,7 +136,8 @@ fn check_file(
     front: &[u8],
     rest: &[u8],
 ) -> Result<(), StoreFault>
-    ensures { OnOk result (IsWholeFile file.now front.now rest.now) }
+    ensures whole { OnOk result (IsWholeFile file.now front.now rest.now) }
+    ensures other { IsWholeFile file.now front.now rest.now → IfErr result IsOther }
 {
     check_path(buffer, front, rest)?;
     if file.numbers.index > MAX_INDEX || !has_numbers(file) {
@@ -163,7 +170,8 @@ impl OldFiles {
 
     /// Appends the values of a row.
     fn add(&mut self, file: &OldFile<'_>) -> Result<(), StoreFault>
-        ensures { OnOk result ((rows row : _) → IsOldFile file.now row → AreFiles self.old rows → AreFiles self.new (rows ++ row ∷ [])) }
+        ensures files { OnOk result ((rows row : _) → IsOldFile file.now row → AreFiles self.old rows → AreFiles self.new (rows ++ row ∷ [])) }
+        ensures other { IfErr result IsOther }
     {
         self.numbers.push(file.numbers).map_err(AllocError::from)?;
         self.lstats.push(ValueRef::Text(file.lstat))?;
@@ -187,12 +195,13 @@ impl OldFiles {
     ) -> Result<(), StoreFault>
         ensures moved { OnOk result (IsMovedAt self.now names.now at row.new) }
         ensures keyed { OnOk result (IsTrue (is_int (rowid row.new))) }
+        ensures other { IfErr result IsOther }
     {
         let Some(numbers) = self.numbers.get(at) else {
-            return Err(StoreFault::BadCatalogue);
+            return Err(damaged());
         };
         let Some(name) = names.get(numbers.name) else {
-            return Err(StoreFault::BadCatalogue);
+            return Err(damaged());
         };
         row.clear();
         row.push(ValueRef::Int(numbers.id))?;
@@ -219,6 +228,7 @@ impl OldFilesReading {
     fn new(alloc: Global, jobs: &[JobRows]) -> Result<OldFilesReading, StoreFault>
         ensures files { IfOk result (λ reading. AreFiles reading.files []) }
         ensures whole { IfOk result (λ reading. AreWhole (map (λ (j : Job). j.row) jobs.now) reading.seen []) }
+        ensures other { IfErr result IsOther }
     {
         Ok(OldFilesReading {
             files: OldFiles::new(alloc),
@@ -232,6 +242,7 @@ impl OldFilesReading {
         ensures files { OnOk result ((rows : _) → AreFiles self.old.files rows → AreFiles self.new.files (rows ++ row.now ∷ [])) }
         ensures moved { OnOk result ((ns : _) → AreNames names.now ns → IsTable ns → IsMovedRow row.now (moved_row ns row.now)) }
         ensures whole { OnOk result (TakesFile paths.now names.now row.now self.old.seen self.new.seen) }
+        ensures other { CanTake paths.now names.now self.old.seen row.now → IfErr result IsOther }
     {
         let Some(file) = old_file(row) else {
             return Err(StoreFault::BadCatalogue);
@@ -264,6 +275,8 @@ pub(crate) fn read_files<S: Store>(
     ensures moved { OnCleanStore S.Store store.old store.new (λ old new. OnOk result (CanMove names.now (old.trees tree))) }
     ensures whole { OnCleanStore S.Store store.old store.new (λ old new. OnOk result
         (CanBelong jobs.now paths.now names.now (old.trees tree))) }
+    ensures other { OnCleanStore S.Store store.old store.new (λ old new.
+        CanTakeAll (map (λ (j : Job). j.row) jobs.now) paths.now names.now (old.trees tree) → IfErr result IsOther) }
     ensures reads { OnCleanStore S.Store store.old store.new (λ old new. OnOk result (Reads old new)) }
     ensures kept { CommitsNothing S.Store store.old store.new }
 {

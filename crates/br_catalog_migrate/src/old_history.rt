@@ -1,9 +1,10 @@
 //! The jobs of a catalogue of version 1, without their files.
 
-ghost use Rattle.std.specs.Prelude.{◌≡◌, [], Ok, IfOk, OnOk};
+ghost use Rattle.std.specs.Prelude.{◌≡◌, [], Ok, IfErr, IfOk, OnOk};
 ghost use Rattle.sqlite_trees.specs.View.{IsClean};
 ghost use Rattle.br_catalog_rows.specs.Load.{read_loaded};
 ghost use Rattle.br_catalog_migrate.specs.Claims.{AreBareJobs};
+ghost use Rattle.br_catalog_migrate.specs.Refusals.{FormHistory, IsOther};
 ghost use Rattle.br_catalog_migrate.specs.MigrationSteps.{CommitsNothing, OnCleanStore, Reads};
 
 use crate::old_jobs::{keep, read_jobs, read_spans};
@@ -20,7 +21,8 @@ use std::alloc::Global;
 
 /// Makes the history of rows of jobs and spans. Its jobs have no files.
 fn history_in(alloc: Global, jobs: Vec<Shown>, spans: Vec<Shown>) -> Result<History, StoreFault>
-    ensures { IfOk result (λ history. read_loaded jobs.items spans.items [] ≡ Ok history) }
+    ensures jobs { IfOk result (λ history. read_loaded jobs.items spans.items [] ≡ Ok history) }
+    ensures other { (all : _) → read_loaded jobs.items spans.items [] ≡ Ok all → IfErr result IsOther }
 {
     let mut version = Row::new(alloc);
     version.push(ValueRef::Int(2))?;
@@ -47,6 +49,7 @@ pub(crate) fn load_jobs<S: Store>(
     layout: &OldLayout,
 ) -> Result<History, StoreFault>
     ensures jobs { OnCleanStore S.Store store.old store.new (λ old new. IfOk result (AreBareJobs layout.now old.trees)) }
+    ensures other { OnCleanStore S.Store store.old store.new (λ old new. FormHistory layout.now old.trees → IfErr result IsOther) }
     ensures reads { OnCleanStore S.Store store.old store.new (λ old new. OnOk result (Reads old new)) }
     ensures kept { CommitsNothing S.Store store.old store.new }
 {

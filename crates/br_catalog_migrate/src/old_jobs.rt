@@ -1,12 +1,14 @@
 //! The jobs and the spans of version 1, with names in place of numbers.
 
-ghost use Rattle.std.specs.Prelude.{◌≡◌, ◌++◌, ◌∷◌, [], map, IfOk, OnOk};
+ghost use Rattle.std.specs.Prelude.{◌≡◌, ◌++◌, ◌∷◌, [], map, IfErr, IfOk, OnOk};
+ghost use Rattle.std.specs.List.{AllByRecursion};
 ghost use Rattle.sqlite_value.specs.Value.{owned};
 ghost use Rattle.sqlite_trees.specs.Tree.{IsTable};
 ghost use Rattle.sqlite_trees.specs.View.{IsClean};
 ghost use Rattle.br_store.specs.Held.{name_at, span_shown};
 ghost use Rattle.br_catalog_migrate.specs.Claims.{ShowJobs, ShowSpans, ShowsJob};
 ghost use Rattle.br_catalog_migrate.specs.OldNames.{AreNames};
+ghost use Rattle.br_catalog_migrate.specs.Refusals.{CanName, CanShowJob, CanShowSpan, IsOther};
 ghost use Rattle.br_catalog_migrate.specs.MigrationSteps.{CommitsNothing, OnCleanStore, Reads};
 
 use crate::old_names::NameTable;
@@ -21,7 +23,8 @@ use std::alloc::{AllocError, Global};
 
 /// Returns the name that has the number in a value. `BadCatalogue` if none has.
 fn name_in<'a>(names: &'a NameTable, id: ValueRef<'_>) -> Result<ValueRef<'a>, StoreFault>
-    ensures { IfOk result (λ name. (rows : _) → AreNames names.now rows → IsTable rows → owned name ≡ name_at rows (owned id.entry)) }
+    ensures name { IfOk result (λ name. (rows : _) → AreNames names.now rows → IsTable rows → owned name ≡ name_at rows (owned id.entry)) }
+    ensures other { CanName names.now (owned id.entry) → IfErr result IsOther }
 {
     match id {
         ValueRef::Int(number) => names.get(number).ok_or(StoreFault::BadCatalogue),
@@ -36,7 +39,8 @@ fn shown_job(
     clients: &NameTable,
     filesets: &NameTable,
 ) -> Result<Shown, StoreFault>
-    ensures { IfOk result (ShowsJob clients.now filesets.now row.now) }
+    ensures shows { IfOk result (ShowsJob clients.now filesets.now row.now) }
+    ensures other { CanShowJob clients.now filesets.now row.now → IfErr result IsOther }
 {
     let client = name_in(clients, row.get(4))?;
     let fileset = name_in(filesets, row.get(7))?;
@@ -55,7 +59,8 @@ fn shown_job(
 
 /// Returns a row of JobMedia, with the name of its volume in place of its number.
 fn shown_span(alloc: Global, row: &Row, media: &NameTable) -> Result<Shown, StoreFault>
-    ensures { IfOk result (λ shown. (ms : _) → AreNames media.now ms → IsTable ms → shown ≡ span_shown ms row.now) }
+    ensures shows { IfOk result (λ shown. (ms : _) → AreNames media.now ms → IsTable ms → shown ≡ span_shown ms row.now) }
+    ensures other { CanShowSpan media.now row.now → IfErr result IsOther }
 {
     let volume = name_in(media, row.get(3))?;
     let mut shown = Row::new(alloc);
@@ -73,7 +78,8 @@ fn shown_span(alloc: Global, row: &Row, media: &NameTable) -> Result<Shown, Stor
 
 /// Appends a row.
 pub(crate) fn keep(rows: &mut Vec<Shown>, row: Shown) -> Result<(), StoreFault>
-    ensures { OnOk result (rows.new.items ≡ rows.old.items ++ row ∷ []) }
+    ensures kept { OnOk result (rows.new.items ≡ rows.old.items ++ row ∷ []) }
+    ensures other { IfErr result IsOther }
 {
     rows.push(row).map_err(AllocError::from)?;
     Ok(())
@@ -94,6 +100,8 @@ pub(crate) fn read_jobs<S: Store>(
 ) -> Result<Vec<Shown>, StoreFault>
     ensures jobs { OnCleanStore S.Store store.old store.new (λ old new. IfOk result
         (λ jobs. ShowJobs clients.now filesets.now (old.trees tree) jobs.items)) }
+    ensures other { OnCleanStore S.Store store.old store.new (λ old new.
+        AllByRecursion (CanShowJob clients.now filesets.now) (old.trees tree) → IfErr result IsOther) }
     ensures reads { OnCleanStore S.Store store.old store.new (λ old new. OnOk result (Reads old new)) }
     ensures kept { CommitsNothing S.Store store.old store.new }
 {
@@ -125,6 +133,8 @@ pub(crate) fn read_spans<S: Store>(
 ) -> Result<Vec<Shown>, StoreFault>
     ensures spans { OnCleanStore S.Store store.old store.new (λ old new. IfOk result
         (λ spans. ShowSpans media.now (old.trees tree) spans.items)) }
+    ensures other { OnCleanStore S.Store store.old store.new (λ old new.
+        AllByRecursion (CanShowSpan media.now) (old.trees tree) → IfErr result IsOther) }
     ensures reads { OnCleanStore S.Store store.old store.new (λ old new. OnOk result (Reads old new)) }
     ensures kept { CommitsNothing S.Store store.old store.new }
 {

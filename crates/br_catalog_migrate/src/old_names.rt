@@ -1,12 +1,13 @@
 //! Tables of names, read from a store.
 
-ghost use Rattle.std.specs.Prelude.{◌≡◌, ◌++◌, ◌∷◌, [], HoldsAt, IfOk, IfSome, OnOk};
+ghost use Rattle.std.specs.Prelude.{◌≡◌, ◌++◌, ◌∷◌, [], HoldsAt, IfErr, IfOk, IfSome, IsSome, IsTrue, OnOk};
 ghost use Rattle.sqlite_value.specs.Value.{owned};
 ghost use Rattle.sqlite_value.specs.declared.value.Value.TheVariants.{Blob, Int};
-ghost use Rattle.sqlite_trees.specs.Tree.{IsTable};
-ghost use Rattle.sqlite_trees.specs.View.{IsClean};
+ghost use Rattle.sqlite_trees.specs.Tree.{IsTable, rowid};
+ghost use Rattle.sqlite_trees.specs.View.{IsClean, is_int};
 ghost use Rattle.br_store.specs.Held.{name_at};
 ghost use Rattle.br_catalog_migrate.specs.OldNames.{AreNames};
+ghost use Rattle.br_catalog_migrate.specs.Refusals.{CanGive, CanName, HaveNumbers, IsOther};
 ghost use Rattle.br_catalog_migrate.specs.MigrationSteps.{CommitsNothing, OnCleanStore, Reads};
 
 use crate::tree_cursor::{start, step};
@@ -35,7 +36,8 @@ impl NameTable {
 
     /// Appends the name in a row of the table.
     fn add(&mut self, row: &Row) -> Result<(), StoreFault>
-        ensures { OnOk result ((rows : _) → AreNames self.old rows → AreNames self.new (rows ++ row.now ∷ [])) }
+        ensures names { OnOk result ((rows : _) → AreNames self.old rows → AreNames self.new (rows ++ row.now ∷ [])) }
+        ensures other { IsTrue (is_int (rowid row.now)) → IfErr result IsOther }
     {
         let ValueRef::Int(id) = row.get(0) else {
             return Err(StoreFault::BadCatalogue);
@@ -47,7 +49,8 @@ impl NameTable {
 
     /// Returns the place of a number. Most tables have the numbers from 1 on, so that it is tried first.
     fn place(&self, id: i64) -> Option<usize>
-        ensures { IfSome result (HoldsAt (λ found. found ≡ id) self.now.ids.items) }
+        ensures found { IfSome result (HoldsAt (λ found. found ≡ id) self.now.ids.items) }
+        ensures known { CanName self.now (Int id) → IsSome result }
     {
         let guess = usize::try_from(id).unwrap_or(0).saturating_sub(1);
         match self.ids.get(guess) {
@@ -58,7 +61,8 @@ impl NameTable {
 
     /// Returns the name that has this number, if one has.
     pub(crate) fn get(&self, id: i64) -> Option<ValueRef<'_>>
-        ensures { (rows : _) → AreNames self.now rows → IsTable rows → IfSome result (λ name. owned name ≡ name_at rows (Int id)) }
+        ensures name { (rows : _) → AreNames self.now rows → IsTable rows → IfSome result (λ name. owned name ≡ name_at rows (Int id)) }
+        ensures known { CanName self.now (Int id) → IsSome result }
     {
         let at = self.place(id)?;
         Some(self.names.get(at))
@@ -66,7 +70,8 @@ impl NameTable {
 
     /// Returns the name of a path or a file that has this number. `BadCatalogue` if none has.
     pub(crate) fn blob(&self, id: i64) -> Result<&[u8], StoreFault>
-        ensures { IfOk result (λ blob. (rows : _) → AreNames self.now rows → IsTable rows → Blob blob.now ≡ name_at rows (Int id)) }
+        ensures blob { IfOk result (λ blob. (rows : _) → AreNames self.now rows → IsTable rows → Blob blob.now ≡ name_at rows (Int id)) }
+        ensures other { (bytes : _) → CanGive self.now (Int id) bytes → IfErr result IsOther }
     {
         match self.get(id) {
             Some(ValueRef::Blob(bytes)) => Ok(bytes),
@@ -86,6 +91,7 @@ pub(crate) fn read_names<S: Store>(
     tree: u32,
 ) -> Result<NameTable, StoreFault>
     ensures names { OnCleanStore S.Store store.old store.new (λ old new. IfOk result (λ names. AreNames names (old.trees tree))) }
+    ensures other { OnCleanStore S.Store store.old store.new (λ old new. HaveNumbers (old.trees tree) → IfErr result IsOther) }
     ensures reads { OnCleanStore S.Store store.old store.new (λ old new. OnOk result (Reads old new)) }
     ensures kept { CommitsNothing S.Store store.old store.new }
 {

@@ -1,16 +1,18 @@
 //! The version of a catalogue, and its tables.
 
-ghost use Rattle.std.specs.Prelude.{◌≡◌, ◌∷◌, [], pos, false, IsTrue, IfOk, OnOk};
+ghost use Rattle.std.specs.Prelude.{◌≡◌, ◌∷◌, [], ℤ, pos, false, IsTrue, IfErr, IfOk, OnOk};
 ghost use Rattle.sqlite_value.specs.declared.value.Value.TheVariants.{Int};
 ghost use Rattle.sqlite_trees.specs.Objects.{catalog_tree};
 ghost use Rattle.sqlite_trees.specs.View.{IsClean};
 ghost use Rattle.sqlite_trees.specs.declared.store.Shape.TheVariants.{Table};
 ghost use Rattle.sqlite_catalog.specs.Listing.{Lists};
 ghost use Rattle.br_catalog_tables.specs.OldSchemas.{IsMovedSchema};
+ghost use Rattle.br_catalog_migrate.specs.Moved.{version_rows};
 ghost use Rattle.br_catalog_migrate.specs.OldRead.{IsOldIn};
+ghost use Rattle.br_catalog_migrate.specs.Refusals.{IsOldHistory, IsOther};
 ghost use Rattle.br_catalog_migrate.specs.MigrationSteps.{AreTables, CommitsNothing, OnCleanStore, Reads};
 
-use crate::tree_cursor::{start, step};
+use crate::tree_cursor::{damaged, start, step};
 use br_catalog_rows::StoreFault;
 use br_catalog_tables::{OldLayout, is_empty, is_moved, is_ours, old_layout, version_tree};
 use sqlite::{Error, ErrorCode};
@@ -33,7 +35,8 @@ pub(crate) fn version_row(alloc: Global, id: i64, version: i64) -> Result<Row, A
 
 /// Returns the rowid of a row that has version 1. `BadCatalogue` if it has another.
 fn first_version(alloc: Global, row: &Row) -> Result<i64, StoreFault>
-    ensures { IfOk result (λ id. row.now ≡ Int id ∷ Int (pos 1) ∷ []) }
+    ensures version { IfOk result (λ id. row.now ≡ Int id ∷ Int (pos 1) ∷ []) }
+    ensures other { (id : ℤ) → row.now ≡ Int id ∷ Int (pos 1) ∷ [] → IfErr result IsOther }
 {
     let ValueRef::Int(id) = row.get(0) else {
         return Err(StoreFault::BadCatalogue);
@@ -57,6 +60,8 @@ pub(crate) fn read_version<S: Store>(
 ) -> Result<i64, StoreFault>
     ensures version { OnCleanStore S.Store store.old store.new (λ old new. IfOk result
         (λ id. old.trees tree ≡ (Int id ∷ Int (pos 1) ∷ []) ∷ [])) }
+    ensures other { OnCleanStore S.Store store.old store.new (λ old new.
+        (id : ℤ) → old.trees tree ≡ version_rows id 1 → IfErr result IsOther) }
     ensures reads { OnCleanStore S.Store store.old store.new (λ old new. OnOk result (Reads old new)) }
     ensures kept { CommitsNothing S.Store store.old store.new }
 {
@@ -106,14 +111,17 @@ pub(crate) struct OldSchema {
 }
 
 /// Returns why a database is refused that is no catalogue.
-fn not_a_catalogue() -> StoreFault {
+fn not_a_catalogue() -> StoreFault
+    ensures { IsOther result }
+{
     StoreFault::Store(Error::SqliteFailure(ErrorCode::NotADatabase))
 }
 
 /// Returns the schema that a store lists.
 fn schema_in<S: Alter>(alloc: Global, store: &S) -> Result<Schema, StoreFault>
     requires { IsClean (S.Store.view store.now) → (S.Store.view store.now).is_broken ≡ false }
-    ensures { IsClean (S.Store.view store.now) → IfOk result (Lists ((S.Store.view store.now).trees catalog_tree)) }
+    ensures lists { IsClean (S.Store.view store.now) → IfOk result (Lists ((S.Store.view store.now).trees catalog_tree)) }
+    ensures other { IfErr result IsOther }
 {
     match load(store, alloc)? {
         Some(schema) => Ok(schema),
@@ -124,6 +132,8 @@ fn schema_in<S: Alter>(alloc: Global, store: &S) -> Result<Schema, StoreFault>
 /// Returns why a database without the tables of version 1 is not migrated: `BadCatalogue` if it is
 /// empty, has the tables of version 2, or has a version other than the one row 1.
 fn refusal_of_other<S: Alter>(alloc: Global, store: &mut S, schema: &Schema) -> StoreFault
+    ensures other { OnCleanStore S.Store store.old store.new (λ old new.
+        Lists (old.trees catalog_tree) schema.now → IsOldHistory old.trees → IsOther result) }
     ensures kept { CommitsNothing S.Store store.old store.new }
 {
     if is_empty(schema) || is_ours(schema) {
@@ -148,6 +158,7 @@ pub(crate) fn find_old<S: Alter>(alloc: Global, store: &mut S) -> Result<OldSche
     requires { IsClean (S.Store.view store.old) → (S.Store.view store.old).is_broken ≡ false }
     ensures old { OnCleanStore S.Store store.old store.new (λ before after.
         IfOk result (λ tables. IsOldIn tables.schema tables.layout before.trees)) }
+    ensures other { OnCleanStore S.Store store.old store.new (λ old new. IsOldHistory old.trees → IfErr result IsOther) }
     ensures reads { OnCleanStore S.Store store.old store.new (λ old new. OnOk result (Reads old new)) }
     ensures kept { CommitsNothing S.Store store.old store.new }
 {
@@ -158,18 +169,19 @@ pub(crate) fn find_old<S: Alter>(alloc: Global, store: &mut S) -> Result<OldSche
     }
 }
 
-/// Returns `BadCatalogue` unless a database lists the tables of version 2 as a migration makes them.
+/// Returns a failure of the store unless a database lists the tables of version 2 as a migration makes them.
 pub(crate) fn check_new<S: Alter>(
     alloc: Global,
     store: &S,
     old: &OldSchema,
 ) -> Result<(), StoreFault>
     requires { IsClean (S.Store.view store.now) → (S.Store.view store.now).is_broken ≡ false }
-    ensures { IsClean (S.Store.view store.now) → OnOk result ((after : _)
+    ensures lists { IsClean (S.Store.view store.now) → OnOk result ((after : _)
         × Lists ((S.Store.view store.now).trees catalog_tree) after × IsMovedSchema after old.now.schema old.now.layout) }
+    ensures other { IfErr result IsOther }
 {
     match load(store, alloc)? {
         Some(schema) if is_moved(&schema, &old.schema, &old.layout) => Ok(()),
-        _ => Err(StoreFault::BadCatalogue),
+        _ => Err(damaged()),
     }
 }

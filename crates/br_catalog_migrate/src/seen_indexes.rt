@@ -1,10 +1,11 @@
 //! The indexes of files, by job.
 
-ghost use Rattle.std.specs.Prelude.{◌≡◌, ◌==◌, ◌&&◌, ◌<◌, ◌+◌, ◌^◌, not, false, ℕ, IfOk, IsTrue, OnOk};
+ghost use Rattle.std.specs.Prelude.{◌≡◌, ◌==◌, ◌&&◌, ◌<◌, ◌+◌, ◌^◌, not, true, false, ℕ, IfErr, IfOk, IsTrue, OnOk};
 ghost use Rattle.std.specs.Ordering.{nat_cmp};
 ghost use Rattle.std.specs.List.{list_any};
 ghost use Rattle.std.specs.BTreeSet.{contains};
 ghost use Rattle.br_model.specs.Job.{JobRows as Job};
+ghost use Rattle.br_catalog_migrate.specs.Refusals.{IsOther};
 ghost use Rattle.br_catalog_migrate.specs.SeenIndexes.{Notes, Saw, has, has_index, has_job};
 
 use br_catalog_rows::StoreFault;
@@ -80,6 +81,7 @@ pub(crate) fn note(
 ) -> Result<(), StoreFault>
     ensures saw { OnOk result (Saw seen.old job index seen.new) }
     ensures fits { job < 2 ^ 32 }
+    ensures other { has_job seen.old job ≡ true → (not (index == 0) && has_index seen.old job index) ≡ false → IfErr result IsOther }
 {
     let Some(indexes) = seen.get_mut(&job) else {
         return Err(StoreFault::BadCatalogue);

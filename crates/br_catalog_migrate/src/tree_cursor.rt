@@ -1,8 +1,9 @@
 //! The rows of a tree, one after another.
 
-ghost use Rattle.std.specs.Prelude.{◌≡◌, [], IsSome, IfOk, OnOk};
+ghost use Rattle.std.specs.Prelude.{◌≡◌, [], IsSome, IfErr, IfOk, OnOk};
 ghost use Rattle.sqlite_trees.specs.View.{IsClean};
 ghost use Rattle.br_catalog_rows.specs.Fault.{fault_number};
+ghost use Rattle.br_catalog_migrate.specs.Refusals.{IsOther};
 ghost use Rattle.br_catalog_migrate.specs.MigrationSteps.{CommitsNothing, GoesOn, OnCleanStore, Starts};
 
 use br_catalog_rows::StoreFault;
@@ -13,7 +14,8 @@ use sqlite_value::row::Row;
 
 /// Returns why a call on the store failed.
 pub(crate) fn fault_of(error: StoreError) -> StoreFault
-    ensures { fault_number result ≡ 45 }
+    ensures number { fault_number result ≡ 45 }
+    ensures other { IsOther result }
 {
     StoreFault::Store(Error::SqliteFailure(match error {
         StoreError::OutOfMemory => ErrorCode::OutOfMemory,
@@ -25,11 +27,19 @@ pub(crate) fn fault_of(error: StoreError) -> StoreFault
     }))
 }
 
+/// Returns why a store is refused whose trees are not as it lists them.
+pub(crate) fn damaged() -> StoreFault
+    ensures { IsOther result }
+{
+    StoreFault::Store(Error::SqliteFailure(ErrorCode::DatabaseCorrupt))
+}
+
 /// Places the cursor before the first row of a tree. `row` has no value.
 pub(crate) fn start<S: Store>(store: &mut S, tree: u32, row: &Row) -> Result<(), StoreFault>
     requires { row.now ≡ [] }
     ensures live { OnOk result (IsSome ((S.Store.view store.new).cursors 0)) }
     ensures starts { OnCleanStore S.Store store.old store.new (λ old new. OnOk result (Starts old new tree)) }
+    ensures other { IfErr result IsOther }
     ensures kept { CommitsNothing S.Store store.old store.new }
 {
     match store.seek(0, tree, row, Direction::Forward) {
@@ -43,6 +53,7 @@ pub(crate) fn step<S: Store>(store: &mut S, row: &mut Row) -> Result<bool, Store
     requires { IsSome ((S.Store.view store.old).cursors 0) }
     ensures live { OnOk result (IsSome ((S.Store.view store.new).cursors 0)) }
     ensures goes_on { OnCleanStore S.Store store.old store.new (λ old new. IfOk result (GoesOn old new row.new)) }
+    ensures other { IfErr result IsOther }
     ensures kept { CommitsNothing S.Store store.old store.new }
 {
     match store.next(0, row) {

@@ -2,6 +2,7 @@ use Rattle.std.proofs.Common.{arith, sym, ◌∙◌}
 use Rattle.sqlite_trees.specs.View.{IsClean}
 use Rattle.br_catalog_migrate.proofs.KeptLaws.{counts_jobs, fresh_again, has_migrated, moves_then, numbered_again, same_again, survives_of}
 use Rattle.br_catalog_migrate.proofs.migrating.migrate.Goals as goal
+use Rattle.br_catalog_migrate.proofs.RefusedLaws.{refuses}
 
 pub returns-in-Ok-clause-migrated : goal.returns-in-Ok-clause-migrated
 returns-in-Ok-clause-migrated g c = λ clean.
@@ -57,3 +58,9 @@ returns-in-Ok-clause-durable g c = λ clean db may.
 
 pub returns-in-Err-clause-unchanged : goal.returns-in-Err-clause-unchanged
 returns-in-Err-clause-unchanged g c = λ failed db may. c.in-Err.ensures.unchanged failed db (c.rollback.ensures.quiet.outcomes db may)
+
+pub returns-in-Err-clause-why : goal.returns-in-Err-clause-why
+returns-in-Err-clause-why g c = λ clean.
+    let v1 = g.S.Store.view c.move_all.new.store in
+    let clean1 : IsClean v1 = omega (arith, clean, c.rollback.ensures.quiet.clean) in
+    refuses (g.S.Store.view c.args.store.now).trees c.in-Err.fault (c.in-Err.ensures.other clean1)

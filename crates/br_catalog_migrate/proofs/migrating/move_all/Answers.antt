@@ -5,6 +5,7 @@ use Rattle.br_catalog_migrate.specs.Moved.{KeepsUnlessFailed}
 use Rattle.br_catalog_migrate.proofs.KeptLaws.{commits_move, if_refused, kept_of, nothing_moved, rolled_last}
 use Rattle.br_catalog_migrate.proofs.StepLaws.{clean_before, last_then}
 use Rattle.br_catalog_migrate.proofs.migrating.move_all.Goals as goal
+use Rattle.std.proofs.lemmas.Result.{err_from_is_err_and}
 
 pub returns-in-Ok-clause-moved : goal.returns-in-Ok-clause-moved
 returns-in-Ok-clause-moved g c = λ clean.
@@ -36,7 +37,12 @@ pub returns-in_err-jobs-clause-crash : goal.returns-in_err-jobs-clause-crash
 returns-in_err-jobs-clause-crash g c = nothing_moved c.rewrite.ensures.kept
 
 pub returns-in-Err-clause-unchanged : goal.returns-in-Err-clause-unchanged
-returns-in-Err-clause-unchanged g c = λ failed. absurd (failed c.fault_of.ensures)
+returns-in-Err-clause-unchanged g c = λ failed. absurd (failed c.fault_of.ensures.number)
 
 pub returns-in_err-jobs-clause-unchanged : goal.returns-in_err-jobs-clause-unchanged
 returns-in_err-jobs-clause-unchanged g c = if_refused c.from_residual.result (KeepsUnlessFailed g.S.Store c.args.store.now c.rewrite.new.store) (λ fault failed. c.rewrite.ensures.kept.quiet.outcomes)
+
+pub returns-in_err-jobs-clause-other : goal.returns-in_err-jobs-clause-other
+returns-in_err-jobs-clause-other g c = λ clean h.
+    let p = err_from_is_err_and c.from_residual.result c.from_residual.ensures.1 in
+    rw (p.1, p.2) (c.in_err-jobs.ensures.other clean h)

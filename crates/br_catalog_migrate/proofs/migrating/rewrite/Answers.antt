@@ -1,8 +1,11 @@
-use Rattle.std.proofs.Common.{◌≡◌, false, sym, ap, ◌∙◌}
+use Rattle.std.proofs.Common.{◌≡◌, false, sym, ap, subst, ◌∙◌}
 use Rattle.sqlite_trees.specs.View.{View}
-use Rattle.br_catalog_migrate.proofs.MigrateLaws.{moved_of}
+use Rattle.br_catalog_migrate.proofs.MigrateLaws.{moved_of, same_trees}
 use Rattle.br_catalog_migrate.proofs.StepLaws.{clean_before, kept_then, stays_numbered}
 use Rattle.br_catalog_migrate.proofs.migrating.rewrite.Goals as goal
+use Rattle.std.proofs.lemmas.Result.{err_from_is_err_and}
+use Rattle.br_catalog_migrate.specs.Refusals.{FormHistory}
+use Rattle.br_catalog_migrate.proofs.RefusedLaws.{forms_in}
 
 pub returns-clause-moved : goal.returns-clause-moved
 returns-clause-moved g c = λ clean.
@@ -34,3 +37,23 @@ returns-in_err-write_new-clause-kept g c = kept_then c.find_old.ensures.kept (ke
 
 pub returns-in_err-old-clause-kept : goal.returns-in_err-old-clause-kept
 returns-in_err-old-clause-kept g c = kept_then c.find_old.ensures.kept c.read_old.ensures.kept
+
+pub returns-in_err-tables-clause-other : goal.returns-in_err-tables-clause-other
+returns-in_err-tables-clause-other g c = λ clean h.
+    let p = err_from_is_err_and c.from_residual.result c.from_residual.ensures.1 in
+    rw (p.1, p.2) (c.in_err-tables.ensures.other clean h)
+
+pub returns-in_err-old-clause-other : goal.returns-in_err-old-clause-other
+returns-in_err-old-clause-other g c = λ clean h.
+    let v0 = g.S.Store.view c.args.store.now in
+    let v1 = g.S.Store.view c.find_old.new.store in
+    let tables = c.in_ok-tables.tables in
+    let clean1 = clean_before c.read_old.ensures.kept clean in
+    let forms = forms_in tables.schema tables.layout v0.trees (c.in_ok-tables.ensures.old clean1) h in
+    let p = err_from_is_err_and c.from_residual-in_err-old.result c.from_residual-in_err-old.ensures.1 in
+    rw (p.1, p.2) (c.in_err-old.ensures.other clean (subst (FormHistory tables.layout) (sym (same_trees v0 v1 (c.in_ok-tables.ensures.reads clean1))) forms))
+
+pub returns-in_err-write_new-clause-other : goal.returns-in_err-write_new-clause-other
+returns-in_err-write_new-clause-other g c = λ clean h.
+    let p = err_from_is_err_and c.from_residual-in_err-write_new.result c.from_residual-in_err-write_new.ensures.1 in
+    rw (p.1, p.2) c.in_err-write_new.ensures.other

@@ -20,7 +20,7 @@ returns-clause-written g c = λ clean was read.
     let fits : SFits w64 c.args.old.now.version = search rules in
     written_of tables.schema l v0 v1 v2 v3 c.args.old.now was read (c.in_ok-replace_tables.ensures.replaced clean1)
     (λ none. c.in_ok-put_files.ensures.put clean2 (v0.trees l.file) (v0.trees l.filename) read.files_are read.names_are read.sorted.names.0 read.sorted.files.0 none)
-    (subst (λ (z : ℤ). SetsTree v2 v3 l.version (put_row (Int z ∷ Int (pos 2) ∷ []))) (to_z-of_z w64 c.args.old.now.version fits) (c.in_ok-put_version.ensures.put clean)) (c.in_ok-check_new.ensures clean)
+    (subst (λ (z : ℤ). SetsTree v2 v3 l.version (put_row (Int z ∷ Int (pos 2) ∷ []))) (to_z-of_z w64 c.args.old.now.version fits) (c.in_ok-put_version.ensures.put clean)) (c.in_ok-check_new.ensures.lists clean)
 
 pub check_new-requires : goal.check_new-requires
 check_new-requires g c = λ clean. let sets = c.in_ok-put_version.ensures.put clean in ap (λ (v : View). v.is_broken) sets.is ∙ sets.sound

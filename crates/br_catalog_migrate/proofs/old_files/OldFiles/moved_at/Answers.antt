@@ -16,4 +16,4 @@ returns-clause-moved c = λ rows ns are named up.
     let found : slice_get c.args.self.now.numbers.items c.args.at ≡ Some n =
     subst (λ (l : List FileNumbers). slice_get l c.args.at ≡ Some n) c.deref.ensures.value (slice_get_read c.deref.result.now (length c.deref.result.now) c.args.at n refl there.3.0 there.1) in
     moved_at ns rows c.args.self.now.numbers.items c.args.self.now.lstats c.args.self.now.digests c.args.at n (owned c.in-Some-get.name) are.numbers are.lstats are.digests found
-    (c.in-Some-get.ensures ns named up ∙ ap (λ (z : ℤ). name_at ns (Int z)) (to_z-of_z w64 n.name name)) ∙ ap Some (search rules)
+    (c.in-Some-get.ensures.name ns named up ∙ ap (λ (z : ℤ). name_at ns (Int z)) (to_z-of_z w64 n.name name)) ∙ ap Some (search rules)
