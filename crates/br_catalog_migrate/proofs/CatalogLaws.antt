@@ -1,5 +1,5 @@
 -- Which tables two lists of objects share.
-use Rattle.std.proofs.Common.{◌≡◌, ◌≢◌, ◌⊎◌, ◌+◌, ℕ, pos, List, [], ◌∷◌, filter, true, Less, Equal, Greater, Ordering, inl, inr, refl, sym, ap, ap₂, subst, ◌∙◌, arith}
+use Rattle.std.proofs.Common.{◌≡◌, ◌≢◌, ◌⊎◌, ◌+◌, ℕ, pos, List, [], ◌∷◌, filter, Less, Equal, Greater, Ordering, inl, inr, refl, sym, ap, ap₂, subst, ◌∙◌, arith}
 use Rattle.std.specs.List.{AllZip}
 use Rattle.std.specs.Ordering.{match_ordering}
 use Rattle.sqlite.specs.declared.types.Value.TheVariants.{Int}

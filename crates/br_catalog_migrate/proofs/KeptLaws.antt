@@ -1,6 +1,6 @@
 -- A migration that was committed, or not.
 use Rattle.std.specs.Prelude.{IfErr}
-use Rattle.std.proofs.Common.{◌≡◌, ◌⊎◌, ◌≤◌, inl, inr, false, ℕ, ℤ, IsTrue, refl, sym, ap, subst, arith, ◌∙◌, Result, Ok, Err}
+use Rattle.std.proofs.Common.{◌≡◌, ◌⊎◌, ◌≤◌, inl, inr, false, ℕ, IsTrue, sym, ap, subst, arith, ◌∙◌, Result, Ok, Err}
 use Rattle.sqlite.specs.Effect.{IsDatabase}
 use Rattle.sqlite.specs.Steps.{IsFresh}
 use Rattle.sqlite.specs.Tree.{Trees}

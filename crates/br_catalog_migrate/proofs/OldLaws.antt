@@ -1,5 +1,5 @@
 -- Where the tables of version 1 are.
-use Rattle.std.proofs.Common.{◌≡◌, ℕ, true, List, codes, refl, ap₂, ◌∙◌}
+use Rattle.std.proofs.Common.{◌≡◌, true, codes, refl, ap₂, ◌∙◌}
 use Rattle.sqlite.specs.Table.{Table}
 use Rattle.sqlite.specs.Effect.{Database}
 use Rattle.sqlite_schema.specs.Names.{same_name}

@@ -11,7 +11,7 @@ use Rattle.sqlite.specs.Tree.{Trees}
 use Rattle.sqlite_value.specs.Keys.{first_key}
 use Rattle.sqlite_value.specs.declared.keys.Order.{Order}
 use Rattle.sqlite_schema.specs.Names.{same_name}
-use Rattle.sqlite_schema.specs.Rules.{Keeps, Obeys, ParentKey, agree, clashes, declared_order, equal, guards, has_null, has_parent, is_held, key_in, key_places, parent_key, passes}
+use Rattle.sqlite_schema.specs.Rules.{Obeys, ParentKey, agree, clashes, declared_order, equal, guards, has_null, has_parent, is_held, key_in, key_places, parent_key, passes}
 use Rattle.sqlite_schema.specs.declared.schema.Constraint.{Constraint}
 use Rattle.sqlite_schema.specs.declared.schema.Constraint.TheVariants.{Datatype, NotNull, Check, PrimaryKey, Unique, ForeignKey}
 use Rattle.sqlite_schema.specs.declared.schema.Index.{Index}

@@ -1,6 +1,5 @@
 -- The trees of version 2, one by one.
-use Rattle.std.proofs.Common.{◌≡◌, ◌≢◌, ◌==◌, ◌^◌, ◌&&◌, ℕ, Bool, true, false, not, nat_le, List, [], cond, refl, sym, ap, ◌∙◌, eq-eqb, ne_eqb, arith}
-use Rattle.std.proofs.lemmas.Bool.{eqb-false}
+use Rattle.std.proofs.Common.{◌≡◌, ◌≢◌, ◌==◌, ◌^◌, ◌&&◌, ℕ, Bool, true, false, not, nat_le, List, [], cond, refl, sym, ap, ◌∙◌, eq-eqb, ne_eqb}
 use Rattle.sqlite.specs.Order.{Row}
 use Rattle.sqlite.specs.Tree.{Trees}
 use Rattle.sqlite_trees.specs.Objects.{catalog_tree}

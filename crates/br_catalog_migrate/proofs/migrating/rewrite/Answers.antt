@@ -1,4 +1,4 @@
-use Rattle.std.proofs.Common.{◌≡◌, false, sym, ap, subst, ◌∙◌}
+use Rattle.std.proofs.Common.{sym, ap, subst, ◌∙◌}
 use Rattle.sqlite_trees.specs.View.{View}
 use Rattle.br_catalog_migrate.proofs.MigrateLaws.{moved_of, same_trees}
 use Rattle.br_catalog_migrate.proofs.StepLaws.{clean_before, kept_then, stays_numbered}

@@ -3,10 +3,9 @@ use Rattle.std.proofs.Common.{◌≡◌, sym, ap, ap₂, subst, ◌∙◌, inl, 
 use Rattle.sqlite.proofs.FileLemmas.{from_store}
 use Rattle.sqlite_store.specs.Unopened.{state_of, wanted_by, image}
 use Rattle.sqlite_store.specs.FileStore.{state, view}
-use Rattle.sqlite_store.specs.Listing.{all_trees, file_trees, IsOurs}
+use Rattle.sqlite_store.specs.Listing.{file_trees, IsOurs}
 use Rattle.sqlite_store.specs.Saved.{kept_schema}
 use Rattle.std.proofs.Math.Path.{subst₃}
-use Rattle.sqlite_pool.specs.File.{in_use}
 use Rattle.sqlite_pool.specs.Stored.{Recovers, RecoversAs}
 use Rattle.sqlite_trees.specs.Tree.{no_trees}
 use Rattle.std.proofs.Math.Logic.{∥∥₁_map}

@@ -1,6 +1,6 @@
 use Rattle.std.proofs.Common.{◌≡◌, true, map, refl, sym, ap, ap₂, subst, subst₂, ◌∙◌, inl, inr, All}
 use Rattle.sqlite_store.specs.Unopened.{state_of, wanted_by, image, Opens}
-use Rattle.sqlite_store.specs.Listing.{all_trees, file_trees, IsOurs}
+use Rattle.sqlite_store.specs.Listing.{file_trees, IsOurs}
 use Rattle.sqlite_store.specs.Db.{rows_at}
 use Rattle.sqlite_pool.specs.File.{in_use}
 use Rattle.sqlite_pool.specs.Stored.{Recovers}
