@@ -214,11 +214,23 @@ class Server:
         """Runs statements."""
         subprocess.run(self.client, input=text.encode(), stdout=subprocess.DEVNULL, check=True)
 
+    def rows(self):
+        """Returns the rows of a catalogue of the old form."""
+        found = {}
+        for table, columns in old_columns().items():
+            texts = ", ".join(self.text.format(it) for it in columns.split())
+            words = [*self.client, *self.printing, f"SELECT concat_ws(',', {texts}) FROM {table} ORDER BY {columns.split()[0]}"]
+            lines = subprocess.run(words, capture_output=True, check=True, text=True).stdout.split()
+            found[table] = [tuple(map(value_of, columns.split(), line.split(","))) for line in lines]
+        return found
+
 
 class Postgres(Server):
     """Catalogues in PostgreSQL, whose server does not run as root."""
 
     name = "PostgreSQL"
+    # A value as text in hexadecimal, and the words before a statement whose rows are printed.
+    text, printing = "coalesce(encode(convert_to({}::text, 'SQL_ASCII'), 'hex'), '-')", ["-A", "-t", "-c"]
 
     @staticmethod
     def program():
@@ -259,16 +271,6 @@ class Postgres(Server):
         text_of = lambda it: f"convert_from('\\x{it.hex()}'::bytea, 'SQL_ASCII')"
         self.run(text + "".join(statements(in_old_form(rows) if is_old else rows, text_of)))
 
-    def rows(self):
-        """Returns the rows of a catalogue of the old form."""
-        found = {}
-        for table, columns in old_columns().items():
-            texts = ", ".join(f"coalesce(encode(convert_to({it}::text, 'SQL_ASCII'), 'hex'), '-')" for it in columns.split())
-            words = [*self.client, "-A", "-t", "-c", f"SELECT concat_ws(',', {texts}) FROM {table} ORDER BY {columns.split()[0]}"]
-            lines = subprocess.run(words, capture_output=True, check=True, text=True).stdout.split()
-            found[table] = [tuple(map(value_of, columns.split(), line.split(","))) for line in lines]
-        return found
-
     def stop(self):
         """Ends the server, and removes its folder."""
         end(self.child, 2)
@@ -279,6 +281,7 @@ class MariaDb(Server):
     """Catalogues in MariaDB."""
 
     name = "MariaDB"
+    text, printing = "coalesce(hex(concat({})), '-')", ["--batch", "--skip-column-names", "--database=bacula", "-e"]
 
     @staticmethod
     def program():

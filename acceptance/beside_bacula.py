@@ -2,8 +2,8 @@
 """Has Bacula's own daemons make backups in a folder of its own, imports their catalogue, and compares what `brestore console` restores
 with what Bacula restores.
 
-    acceptance/beside_bacula.py                    needs root, bacula-sd, bacula-fd, bacula-console, and bacula-director-pgsql with
-                                                   PostgreSQL or bacula-director-sqlite3
+    acceptance/beside_bacula.py                    needs root, bacula-director, -sd, -fd and -console, bacula-director-pgsql with
+                                                   PostgreSQL, bacula-director-mysql with MariaDB, or bacula-director-sqlite3
     acceptance/beside_bacula.py --program FILE     another program
     acceptance/beside_bacula.py --keep DIR         keeps the folder of the run, which is made
     acceptance/beside_bacula.py --sample DIR       makes a small run, and writes its catalogue, volumes and restored trees there
@@ -37,7 +37,7 @@ from concurrent.futures import ThreadPoolExecutor
 # Nothing is left beside the script.
 sys.dont_write_bytecode = True
 sys.path.insert(0, os.path.join(os.path.dirname(os.path.dirname(os.path.abspath(__file__))), "tools"))
-from bacula_rows import Postgres, Sqlite, as_sqlite
+from bacula_rows import MariaDb, Postgres, Sqlite, as_sqlite
 from common import PROGRAM, ROOT, Checks
 from sampled import is_same, lines_of, restore
 
@@ -54,7 +54,7 @@ SECONDS = 120
 DIRECTOR = """
 Director {{ Name = test-dir; DIRport = {dir}; DirAddress = 127.0.0.1; QueryFile = "{top}/query.sql"; WorkingDirectory = "{top}/work"
   PidDirectory = "{top}/work"; Maximum Concurrent Jobs = 10; Password = "p"; Messages = Standard; }}
-Catalog {{ Name = Own; dbname = bacula; {address} dbuser = bacula; dbpassword = ""; }}
+Catalog {{ Name = Own; dbname = bacula; {place} dbpassword = ""; }}
 Storage {{ Name = Disk; Address = 127.0.0.1; SDPort = {sd}; Password = "p"; Device = Folder; Media Type = File; Maximum Concurrent Jobs = 10; }}
 Pool {{ Name = Default; Pool Type = Backup; Recycle = no; AutoPrune = no; Label Format = "Vol-"; Maximum Volume Bytes = {volume}; }}
 Messages {{ Name = Standard; append = "{top}/log" = all; }}
@@ -91,18 +91,39 @@ def tool(name):
 def missing():
     """Returns what is missing for this script, as words."""
     lacking = [it for it in ("bacula-dir", "bacula-sd", "bacula-fd", "bconsole", "tar", "sqlite3") if not tool(it)]
-    lacking += [] if database() else ["bacula-director-pgsql or -sqlite3"]
+    lacking += [] if database() else ["bacula-director-pgsql, -mysql or -sqlite3"]
     lacking += ["PostgreSQL"] if database() == "pgsql" and not Postgres.program() else []
+    lacking += ["MariaDB"] if database() == "mysql" and not MariaDb.program() else []
     return lacking + ([] if os.geteuid() == 0 else ["root"])
 
 
 def database():
     """Returns the database of the Director that is installed, or None."""
-    return next((it for it in ("pgsql", "sqlite3") if os.path.exists(TABLES.format(it))), None)
+    return next((it for it in ("pgsql", "mysql", "sqlite3") if os.path.exists(TABLES.format(it))), None)
+
+
+class DirectorPostgres(Postgres):
+    """A catalogue in PostgreSQL. `place` says in the Director's words where it is."""
+
+    def __init__(self, top):
+        super().__init__()
+        self.place = f'DB Address = "{self.folder}"; dbuser = bacula;'
+
+
+class DirectorMariaDb(MariaDb):
+    """A catalogue in MariaDB."""
+
+    def __init__(self, top):
+        super().__init__()
+        self.place = f'DB Socket = "{self.folder}/socket"; dbuser = root;'
+        self.run("CREATE DATABASE bacula;")
+        self.client.append("bacula")
 
 
 class DirectorSqlite(Sqlite):
     """A catalogue in the file that the Director keeps in its folder."""
+
+    place = "dbuser = bacula;"
 
     def __init__(self, top):
         super().__init__(top)
@@ -126,7 +147,7 @@ class Site:
         self.ports = {"dir": free_port(), "sd": free_port(), **{name: free_port() for name in CLIENTS}}
         for name in ("work", "volumes", *CLIENTS, *(f"work-{it}" for it in CLIENTS)):
             os.mkdir(os.path.join(top, name))
-        self.database = Postgres() if database() == "pgsql" else DirectorSqlite(top)
+        self.database = {"pgsql": DirectorPostgres, "mysql": DirectorMariaDb, "sqlite3": DirectorSqlite}[database()](top)
         stops.callback(self.database.stop)
         with open(TABLES.format(database())) as text:
             self.database.run(text.read())
@@ -138,8 +159,7 @@ class Site:
 
     def write_configuration(self):
         """Writes a file for each daemon, and one for the console."""
-        address = f'DB Address = "{self.database.folder}";' if database() == "pgsql" else ""
-        values = {"top": self.top, "address": address, "volume": self.volume, **self.ports}
+        values = {"top": self.top, "place": self.database.place, "volume": self.volume, **self.ports}
         director = DIRECTOR.format(**values)
         for name, (fileset, accurate, options) in CLIENTS.items():
             more = {"name": name, "port": self.ports[name], "fileset": fileset, "accurate": accurate, "options": options}
@@ -181,29 +201,33 @@ class Site:
         return sum(os.path.getsize(it) for it in glob.glob(os.path.join(self.top, "volumes", "*")))
 
     @contextlib.contextmanager
-    def held(self, share):
-        """Holds the file daemon of mars once it has saved this share of a volume more."""
+    def held(self, name, share):
+        """Holds the file daemon of a client once it has saved this share of a volume more."""
         wanted = self.written() + share * self.volume
         yield
         for _ in range(1000 * SECONDS):
             if self.written() > wanted:
                 break
             time.sleep(0.001)
-        self.children["mars.conf"].send_signal(signal.SIGSTOP)
+        self.children[f"{name}.conf"].send_signal(signal.SIGSTOP)
 
-    def go_on(self):
-        """Lets the file daemon of mars go on."""
-        self.children["mars.conf"].send_signal(signal.SIGCONT)
+    def go_on(self, name):
+        """Lets the file daemon of a client go on."""
+        self.children[f"{name}.conf"].send_signal(signal.SIGCONT)
 
     def back_up(self, level):
-        """Runs the jobs of both clients, and waits for them. The first ones run at the same time: that of venus while that of mars is held.
-        Returns the moment after them, in UTC."""
+        """Runs the jobs of both clients, and waits for them. The first ones take turns: while one writes, the other one is held. Returns the
+        moment after them, in UTC."""
         if level == "Full":
-            with self.held(0.3):
+            with self.held("mars", 0.1):
                 self.console("run job=mars level=Full yes")
-            self.console("run job=venus level=Full yes")
+            with self.held("venus", 0):
+                self.console("run job=venus level=Full yes")
+            with self.held("mars", 0.1):
+                self.go_on("mars")
+            self.go_on("venus")
             time.sleep(5)
-            self.go_on()
+            self.go_on("mars")
             self.console("wait")
         else:
             self.console(*(f"run job={name} level={level} yes" for name in CLIENTS), "wait")
@@ -212,12 +236,12 @@ class Site:
 
     def cancel(self):
         """Cancels a Full of mars once it has filled a volume."""
-        with self.held(1.2):
+        with self.held("mars", 1.2):
             self.console("run job=mars level=Full yes")
         with ThreadPoolExecutor(1) as beside:
             cancelling = beside.submit(self.console, "cancel all yes", "wait")
             time.sleep(2)
-            self.go_on()
+            self.go_on("mars")
             cancelling.result()
 
     def restore(self, name, moment, into):
@@ -403,6 +427,17 @@ def write_sample(folder, site, catalogue, lines, sections):
         file.write(lines)
 
 
+def bytes_of(span):
+    """Returns the addresses of the first and last byte of a row of JobMedia."""
+    return (span[5] << 32) + span[7], (span[6] << 32) + span[8]
+
+
+def is_mixed(spans):
+    """Returns whether blocks of the first two jobs lie between each other on a volume."""
+    first, second = ([(it[2], *bytes_of(it)) for it in spans if it[1] == number] for number in (1, 2))
+    return any(one[0] == other[0] and one[1] < other[2] and other[1] < one[2] for one in first for other in second)
+
+
 def run(checks, top, sample):
     """Makes the backups, imports their catalogue, and compares."""
     with contextlib.ExitStack() as stops:
@@ -415,8 +450,8 @@ def run(checks, top, sample):
         checks.check("the import", (ran.returncode, ran.stderr), (0, ""))
         # Before the restores, which are jobs of their own.
         rows = site.database.rows()
-        text, volumes = as_sqlite(rows), [{row[2] for row in rows["JobMedia"] if row[1] == number} for number in (1, 2)]
-        checks.check("jobs that share a volume, and that span volumes", (len(volumes[0] & volumes[1]) > 0, len(volumes[0]) > 1), (True, True))
+        text, volumes = as_sqlite(rows), {row[2] for row in rows["JobMedia"] if row[1] == 1}
+        checks.check("jobs whose blocks are mixed, and that span volumes", (is_mixed(rows["JobMedia"]), len(volumes) > 1), (True, True))
         checks.check("a cancelled job", ran.stdout.count("unfinished "), 1)
         sections = compare(checks, site, db, moments)
         if sample:

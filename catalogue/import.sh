@@ -124,8 +124,14 @@ if [ -n "$after" ]; then
     after=$(sqlite3 -init /dev/null :memory: "SELECT strftime('%s', '$after')")
 fi
 
-# Nothing is written over.
-if [ -e "$new" ] || [ -L "$new" ]; then fail "$new is there already"; fi
+# Nothing is written over. A log that lies there belongs to another catalogue, and would spoil this one.
+must_be_free() {
+    for file in "$new" "$new-wal" "$new-journal"; do
+        if [ -e "$file" ] || [ -L "$file" ]; then fail "$file is there already"; fi
+    done
+}
+
+must_be_free
 work=$new.import.$$
 mkdir -m 700 -- "$work" || fail "no folder can be made beside $new"
 trap 'rm -rf -- "$work"' EXIT
@@ -155,7 +161,8 @@ within='1 = 1'
 case $kind in
 pgsql)
     is_old=$(run_pgsql <<'END'
-SELECT count(*) FROM pg_attribute WHERE attrelid = 'file'::regclass AND attname = 'filenameid' AND NOT attisdropped;
+SELECT CASE WHEN to_regclass('file') IS NULL THEN 'none' ELSE count(*)::text END
+FROM pg_attribute WHERE attrelid = to_regclass('file') AND attname = 'filenameid' AND NOT attisdropped;
 END
     ) || fail 'the database cannot be read'
     client_name="encode(convert_to(c.Name, 'SQL_ASCII'), 'hex')"
@@ -164,8 +171,8 @@ END
     ;;
 mysql)
     is_old=$(run_mysql <<'END'
-SELECT count(*) FROM information_schema.columns
-WHERE table_schema = DATABASE() AND table_name = 'File' AND column_name = 'FilenameId';
+SELECT CASE count(*) WHEN 0 THEN 'none' ELSE sum(column_name = 'FilenameId') END
+FROM information_schema.columns WHERE table_schema = DATABASE() AND table_name = 'File';
 END
     ) || fail 'the database cannot be read'
     tables=$(run_mysql <<'END'
@@ -180,12 +187,13 @@ END
     ;;
 sqlite)
     is_old=$(run_sqlite -cmd '.timeout 60000' "ATTACH '$uri' AS bacula;
-SELECT count(*) FROM pragma_table_info('File', 'bacula') WHERE lower(name) = 'filenameid';") || fail "$source cannot be read"
+SELECT CASE count(*) WHEN 0 THEN 'none' ELSE sum(lower(name) = 'filenameid') END FROM pragma_table_info('File', 'bacula');") || fail "$source cannot be read"
     client_name='lower(hex(c.Name))'
     fileset_name='lower(hex(s.FileSet))'
     start="j.JobTDate - coalesce(CASE typeof(j.EndTime) WHEN 'text' THEN strftime('%s', j.EndTime) - strftime('%s', j.StartTime) END, 0)"
     ;;
 esac
+[ "$is_old" != none ] || fail "${base:-$source} has no table File that may be read: is it Bacula's catalogue?"
 if [ "$is_old" = 1 ]; then
     name=n.Name names=' LEFT JOIN @Filename n ON n.FilenameId = f.FilenameId'
 else
@@ -231,7 +239,7 @@ no_job() {
 # The empty tables are made by the program itself.
 said=$("$program" serve --db "$work/new.db" --volumes "$work" < /dev/null 2>&1) ||
     fail "$program cannot make a catalogue beside $new: ${said:-it says nothing}. Is there room?"
-rows | run_sqlite > /dev/null || fail 'the database cannot be read'
+rows | run_sqlite > /dev/null || fail "the rows of the database cannot be copied into the folder of $new"
 [ "$(run_sqlite 'SELECT count(*) FROM in_end')" = 1 ] || fail 'the database cannot be read to its end'
 run_sqlite < "$here/rules.sql" > /dev/null || fail 'the catalogue cannot be made'
 run_sqlite "SELECT kind || ' ' || JobId || ' ' || count FROM line ORDER BY JobId, kind" > "$work/lines" || fail 'the lines cannot be read'
@@ -242,7 +250,7 @@ rm -f -- "$work/rows.db"
 
 said=$("$program" jobs --db "$work/new.db" 2>&1 > "$work/jobs") || fail "$program does not take the catalogue: $said"
 [ "$(wc -l < "$work/jobs")" -eq "$jobs" ] || fail "$program does not list each job"
-if [ -e "$new" ] || [ -L "$new" ]; then fail "$new is there already"; fi
+must_be_free
 mv -- "$work/new.db" "$new" || fail "$new cannot be made"
 cat "$work/lines"
 echo "imported $jobs $files"
