@@ -14,12 +14,14 @@ something is not as expected.
 import argparse
 import contextlib
 import os
+import resource
 import shutil
 import sqlite3
 import subprocess
 import sys
 import tempfile
 import threading
+import time
 
 # Nothing is left beside the script.
 sys.dont_write_bytecode = True
@@ -521,6 +523,16 @@ def one_file_set(rows, kept):
 
 
 @case
+def a_client_with_a_blank(rows, kept):
+    # The other one has an apostrophe, which brestore does not take.
+    rows["Client"] = [(1, b"mars fd"), (2, b"o'brien fd")]
+    rows["Job"].append(job(3, b"F", ClientId=2))
+    rows["JobMedia"].append(span(3, 3, 1, 1, 2000, 2100))
+    kept["Client"] = [(1, "mars fd")]
+    return [], {"words": ["--client", "mars fd"]}
+
+
+@case
 def after_a_moment(rows, kept):
     # Job 2 begins at the moment itself.
     kept["Job"], kept["JobMedia"] = [kept_job(2)], [span(1, 2, 1, 1, 1173, 1655)]
@@ -574,6 +586,12 @@ def refuses(checks, source, folder):
     checks.check("a catalogue that is there", run_import(checks, db, *source.words)[:2], (3, ""))
     checks.check("stays", rows_of(db), before)
     os.remove(db)
+    for end in ("wal", "journal"):
+        with open(f"{db}-{end}", "w") as file:
+            file.write("of another catalogue")
+        found = run_import(checks, db, *source.words)
+        checks.check(f"a {end} that is there", (found, os.path.exists(db)), ((3, "", f"import.sh: {db}-{end} is there already\n"), False))
+        os.remove(file.name)
     rows = base()
     rows["Job"].append(job(3, b"D"))
     source.fill(rows, False)
@@ -593,20 +611,70 @@ def refuses(checks, source, folder):
         found = run_import(checks, db, *words)
         checks.check(name, (found[:2], found[2].count("import.sh: ") > 0, os.path.exists(db)), ((status, ""), True, False))
     says_why(checks, source, folder, db)
+    lacks_room(checks, source, folder, db)
     checks.check("leave nothing", [it for it in os.listdir(folder) if it.startswith("new.db")], [])
     lost(checks, source, db)
     if source.name == "SQLite":
         waits(checks, source, db)
+        is_killed(checks, source, folder, db)
+        is_old(checks, source, folder, db)
     if source.name != "SQLite":
         cut(checks, source, folder, db)
     if source.name == "MariaDB":
         warns(checks, source, db)
 
 
+def lacks_room(checks, source, folder, db):
+    """Imports 6,000 rows where no file may have more than 400 KiB, as on a full disk."""
+    rows = base()
+    rows["File"] = [(n, n, 1, 1, b"f%d" % n, FILE, HELLO) for n in range(1, 6001)]
+    source.fill(rows, False)
+    limit = lambda: resource.setrlimit(resource.RLIMIT_FSIZE, (400 << 10, 400 << 10))
+    words = [SCRIPT, db, "--program", checks.program, *source.words]
+    ran = subprocess.run(words, capture_output=True, text=True, preexec_fn=limit, restore_signals=False)
+    text = f"import.sh: the rows of the database cannot be copied into the folder of {db}"
+    checks.check("no room", (ran.returncode, ran.stdout, text in ran.stderr.splitlines(), os.path.exists(db)), (3, "", True, False))
+    source.fill(base(), False)
+
+
+def with_own_sqlite(folder, name, lines):
+    """Returns a PATH that begins with a folder in which `sqlite3` runs these lines before it is the one of the system."""
+    place = os.path.join(folder, name)
+    os.mkdir(place)
+    with open(os.path.join(place, "sqlite3"), "w") as script:
+        script.write(f'#!/bin/sh\n{lines}\nexec {shutil.which("sqlite3")} "$@"\n')
+    os.chmod(script.name, 0o755)
+    return f"{place}:{os.environ['PATH']}"
+
+
+def is_killed(checks, source, folder, db):
+    """Kills an import within a step that does not end. It ends at once, and so does the step."""
+    mark = os.path.join(folder, "step")
+    path = with_own_sqlite(folder, "slow", f'case "$*" in *rows.db) echo $$ > {mark}.new; mv {mark}.new {mark}; exec sleep 100 ;; esac')
+    child = subprocess.Popen([SCRIPT, db, "--program", checks.program, *source.words], env={**os.environ, "PATH": path}, stdout=subprocess.PIPE, stderr=subprocess.PIPE)
+    while not os.path.exists(mark):
+        time.sleep(0.01)
+    started = time.monotonic()
+    child.terminate()
+    found = child.communicate()
+    checks.check("an import that is killed", (child.returncode, found, time.monotonic() - started < 20), (3, (b"", b""), True))
+    checks.check("leaves nothing", [it for it in os.listdir(folder) if it.startswith("new.db")], [])
+    with open(mark) as number:
+        checks.check("and no step", os.path.exists(f"/proc/{number.read().strip()}"), False)
+
+
+def is_old(checks, source, folder, db):
+    """Imports by a `sqlite3` that lacks a function, as one before 3.32."""
+    path = with_own_sqlite(folder, "old", 'case "$*" in *iif*) echo "Error: no such function: iif" >&2; exit 1 ;; --version) echo 3.26.0; exit ;; esac')
+    found = run_import(checks, db, *source.words, PATH=path)
+    checks.check("an old sqlite3", found, (3, "", "import.sh: sqlite3 is too old, since 3.32 is needed: 3.26.0\n"))
+
+
 def says_why(checks, source, folder, db):
-    """Compares what imports say on standard error that take no job, or lack a file or a program."""
+    """Compares what imports say on standard error that take no job, or lack a table, a file or a program."""
     text = "import.sh: there is no job to take of this client and file set after this moment. The database has:\nclient mars-fd\nfile set Home\n"
-    checks.check("the names that there are", run_import(checks, db, *source.words, "--client", "Mars-fd"), (3, "", text))
+    for client in ("Mars-fd", "o'brien; fd", "%"):
+        checks.check("the names that there are", run_import(checks, db, *source.words, "--client", client), (3, "", text))
     found = run_import(checks, db, *source.words, "--program", "/nowhere")
     checks.check("no program", found, (3, "", "import.sh: there is no /nowhere: put its folder into PATH, or give --program FILE\n"))
     rows = base()
@@ -614,6 +682,9 @@ def says_why(checks, source, folder, db):
     source.fill(rows, False)
     text = "type 1 3\ntype 2 1\nimport.sh: there is no job to take\n"
     checks.check("why each job is left out", run_import(checks, db, *source.words), (3, "", text))
+    source.run(("USE bacula; " if source.name == "MariaDB" else "") + "ALTER TABLE File RENAME TO Filed;")
+    found = run_import(checks, db, *source.words)
+    checks.check("a database of somebody else's", found, (3, "", f"import.sh: {source.words[-1]} has no table File that may be read: is it Bacula's catalogue?\n"))
     link = os.path.join(folder, "link")
     if not os.path.lexists(link):
         os.symlink(SCRIPT, link)

@@ -97,6 +97,8 @@ for file in stage.sql rules.sql "$kind.sql"; do
     [ -r "$here/$file" ] || fail "$here/$file is missing: call the script by its own path, not by a link"
 done
 needs sqlite3 ': install it'
+sqlite3 -init /dev/null :memory: "SELECT iif(json_extract('[1]', '$[0]') = row_number() OVER (), 1, 0)" > /dev/null 2>&1 ||
+    fail "sqlite3 is too old, since 3.32 is needed: $(sqlite3 --version)"
 needs "$program" ': put its folder into PATH, or give --program FILE'
 case $kind in
 pgsql) needs psql ': install the client of PostgreSQL' ;;
@@ -134,12 +136,30 @@ must_be_free() {
 must_be_free
 work=$new.import.$$
 mkdir -m 700 -- "$work" || fail "no folder can be made beside $new"
-trap 'rm -rf -- "$work"' EXIT
+step=''
+# Ends what still runs, and removes the folder.
+clean() {
+    [ -z "$step" ] || kill "$step" 2> /dev/null || :
+    rm -rf -- "$work"
+}
+trap clean EXIT
 trap 'exit 3' HUP INT PIPE TERM
 
 # Runs SQLite over the database of the rows as they were, with the new catalogue beside it.
+exec_sqlite() {
+    cd -- "$work" && exec env SQLITE_TMPDIR=. sqlite3 -batch -bail -init /dev/null rows.db "$@"
+}
+
 run_sqlite() {
-    (cd -- "$work" && SQLITE_TMPDIR=. sqlite3 -batch -bail -init /dev/null rows.db "$@")
+    (exec_sqlite "$@")
+}
+
+# Waits for the step that was started last, and returns its status. A shell that waits hears a signal at once.
+wait_for_step() {
+    step=$! status=0
+    wait "$step" || status=$?
+    step=''
+    return $status
 }
 
 # Run the client of the database, with statements from standard input.
@@ -174,7 +194,7 @@ mysql)
 SELECT CASE count(*) WHEN 0 THEN 'none' ELSE sum(column_name = 'FilenameId') END
 FROM information_schema.columns WHERE table_schema = DATABASE() AND table_name = 'File';
 END
-    ) || fail 'the database cannot be read'
+    ) || fail 'the database cannot be read: if it has a password, it belongs in ~/.my.cnf'
     tables=$(run_mysql <<'END'
 SELECT count(*) FROM information_schema.tables
 WHERE table_schema = DATABASE() AND table_name IN ('Job', 'JobMedia', 'File', 'Path') AND engine <> 'InnoDB';
@@ -239,9 +259,11 @@ no_job() {
 # The empty tables are made by the program itself.
 said=$("$program" serve --db "$work/new.db" --volumes "$work" < /dev/null 2>&1) ||
     fail "$program cannot make a catalogue beside $new: ${said:-it says nothing}. Is there room?"
-rows | run_sqlite > /dev/null || fail "the rows of the database cannot be copied into the folder of $new"
+rows | exec_sqlite > /dev/null &
+wait_for_step || fail "the rows of the database cannot be copied into the folder of $new"
 [ "$(run_sqlite 'SELECT count(*) FROM in_end')" = 1 ] || fail 'the database cannot be read to its end'
-run_sqlite < "$here/rules.sql" > /dev/null || fail 'the catalogue cannot be made'
+exec_sqlite < "$here/rules.sql" > /dev/null &
+wait_for_step || fail "the catalogue cannot be made in the folder of $new"
 run_sqlite "SELECT kind || ' ' || JobId || ' ' || count FROM line ORDER BY JobId, kind" > "$work/lines" || fail 'the lines cannot be read'
 jobs=$(run_sqlite 'SELECT count(*) FROM job WHERE kind IS NULL') || fail 'the jobs cannot be counted'
 [ "$jobs" != 0 ] || no_job

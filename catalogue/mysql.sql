@@ -1,5 +1,6 @@
 -- Reads Bacula's catalogue in MySQL or MariaDB, in one snapshot if its tables have transactions, and prints statements that fill the tables
--- of stage.sql. Texts are printed in hexadecimal, so that each byte comes through. import.sh replaces the words with an `@`.
+-- of stage.sql. Texts are printed in hexadecimal, so that each byte comes through. import.sh replaces the words with an `@`. The rows of
+-- File are joined with their jobs: of `IN (SELECT ..)` the server would keep each row to see that it comes once.
 SET SESSION sql_select_limit = 18446744073709551615;
 SET SESSION sql_big_selects = 1;
 SET SESSION TRANSACTION ISOLATION LEVEL REPEATABLE READ;
@@ -19,20 +20,18 @@ SELECT concat('INSERT INTO in_jobmedia VALUES(', JobMediaId, ',', JobId, ',', Me
   FROM @JobMedia;
 SELECT concat('INSERT INTO in_path VALUES(', PathId, ',x''', hex(Path), ''');')
   FROM @Path WHERE @all@ = 1 OR PathId IN (
-    SELECT f.PathId FROM @File f WHERE f.JobId IN (
-      SELECT j.JobId FROM @Job j LEFT JOIN @Client c ON c.ClientId = j.ClientId LEFT JOIN @FileSet s ON s.FileSetId = j.FileSetId
-      WHERE @within@));
+    SELECT f.PathId FROM @File f JOIN @Job j ON j.JobId = f.JobId LEFT JOIN @Client c ON c.ClientId = j.ClientId
+      LEFT JOIN @FileSet s ON s.FileSetId = j.FileSetId
+    WHERE @within@);
 SELECT concat('INSERT INTO in_file VALUES(', f.FileId, ',', f.FileIndex, ',', f.JobId, ',', f.PathId, ',',
     ifnull(concat('x''', hex(@name@), ''''), 'NULL'), ',x''', hex(ifnull(f.LStat, '')), ''',x''', hex(ifnull(f.MD5, '')), ''');')
-  FROM @File f@names@
-  WHERE f.JobId IN (
-    SELECT j.JobId FROM @Job j LEFT JOIN @Client c ON c.ClientId = j.ClientId LEFT JOIN @FileSet s ON s.FileSetId = j.FileSetId
-    WHERE j.Type = 'B' AND @within@);
+  FROM @File f JOIN @Job j ON j.JobId = f.JobId LEFT JOIN @Client c ON c.ClientId = j.ClientId
+    LEFT JOIN @FileSet s ON s.FileSetId = j.FileSetId@names@
+  WHERE j.Type = 'B' AND @within@;
 SELECT concat('INSERT INTO in_count VALUES(', f.JobId, ',', count(*), ');')
-  FROM @File f
-  WHERE f.JobId IN (
-    SELECT j.JobId FROM @Job j LEFT JOIN @Client c ON c.ClientId = j.ClientId LEFT JOIN @FileSet s ON s.FileSetId = j.FileSetId
-    WHERE j.Type <> 'B' AND @within@)
+  FROM @File f JOIN @Job j ON j.JobId = f.JobId LEFT JOIN @Client c ON c.ClientId = j.ClientId
+    LEFT JOIN @FileSet s ON s.FileSetId = j.FileSetId
+  WHERE j.Type <> 'B' AND @within@
   GROUP BY f.JobId;
 SELECT concat('INSERT INTO in_orphan VALUES(', f.JobId, ',', count(*), ');')
   FROM @File f LEFT JOIN @Job j ON j.JobId = f.JobId
