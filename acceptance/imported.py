@@ -328,6 +328,22 @@ def jobs_of_other_types(rows, kept):
 
 
 @case
+def jobs_after_one_that_stands_on_a_base_job(rows, kept):
+    # A Full on a Base job, an Incremental, a Differential that failed, a job of another file set, and the next Full with an Incremental.
+    rows["FileSet"].append((2, b"Root"))
+    rows["Job"] += [job(3, b"F", HasBase=1), job(4), job(5, b"D", JobStatus=b"f"), job(6, FileSetId=2), job(7, b"F"), job(8)]
+    # A Full on a Base job that failed is in nobody's way.
+    rows["Job"] += [job(9, b"F", HasBase=1, JobStatus=b"f"), job(10)]
+    rows["JobMedia"] += [span(n, n, 1, 1, 2000 + n, 2000 + n) for n in range(3, 11)]
+    rows["File"] += [(n + 2, 1, n, 1, b"a", FILE, HELLO) for n in range(3, 11)]
+    kept["FileSet"].append((2, "Root"))
+    kept["Job"] += [kept_job(6, fileset=2), kept_job(7, "F"), kept_job(8), kept_job(10)]
+    kept["JobMedia"] += [span(at, n, 1, 1, 2000 + n, 2000 + n) for at, n in enumerate((6, 7, 8, 10), 3)]
+    kept["File"] += [(at, 1, n, 1, b"a", FILE_KEPT, HELLO_HEX) for at, n in enumerate((6, 7, 8, 10), 5)]
+    return ["base 3 1", "base 4 1", "base 5 1", "base 9 1"]
+
+
+@case
 def a_virtual_full(rows, kept):
     # It has the times of job 2, but for its real end.
     rows["Job"].append(job(3, b"F", StartTime="2026-11-22 23:00:00", EndTime="2026-11-22 23:01:00", JobTDate=FIRST + DAY + 60))

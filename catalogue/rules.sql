@@ -75,6 +75,14 @@ INSERT INTO job
 CREATE INDEX jobs_by_session ON job(VolSessionTime, VolSessionId);
 CREATE INDEX jobs_by_end ON job(finish);
 CREATE INDEX jobs_by_start ON job(client, fileset, start);
+-- A Full that stands on a Base job is left out, and so is what was saved after it up to the next Full: with an older Full it would give files
+-- of two histories.
+UPDATE job SET kind = 'base'
+  WHERE kind IS NULL AND level <> 'F' AND EXISTS (SELECT 1 FROM job o WHERE o.kind = 'base') AND (
+    SELECT o.kind FROM job o
+    WHERE o.client = job.client AND o.fileset = job.fileset AND o.level = 'F' AND o.is_good AND (o.kind IS NULL OR o.kind = 'base')
+      AND (o.start < job.start OR o.start = job.start AND o.JobId < job.JobId)
+    ORDER BY o.start DESC, o.JobId DESC LIMIT 1) = 'base';
 UPDATE job SET kind = 'session'
   WHERE kind IS NULL AND EXISTS (
     SELECT 1 FROM job o
