@@ -630,9 +630,10 @@ def refuses(checks, source, folder):
     lacks_room(checks, source, folder, db)
     checks.check("leave nothing", [it for it in os.listdir(folder) if it.startswith("new.db")], [])
     lost(checks, source, db)
+    source.fill(base(), False)
+    is_killed(checks, source, folder, db)
     if source.name == "SQLite":
         waits(checks, source, db)
-        is_killed(checks, source, folder, db)
         is_old(checks, source, folder, db)
     if source.name != "SQLite":
         cut(checks, source, folder, db)
@@ -653,35 +654,46 @@ def lacks_room(checks, source, folder, db):
     source.fill(base(), False)
 
 
-def with_own_sqlite(folder, name, lines):
-    """Returns a PATH that begins with a folder in which `sqlite3` runs these lines before it is the one of the system."""
-    place = os.path.join(folder, name)
-    os.mkdir(place)
-    with open(os.path.join(place, "sqlite3"), "w") as script:
-        script.write(f'#!/bin/sh\n{lines}\nexec {shutil.which("sqlite3")} "$@"\n')
+def with_own(folder, program, lines):
+    """Returns a PATH that begins with a new folder in which a program runs these lines before it is the one of the system."""
+    place = tempfile.mkdtemp(dir=folder)
+    with open(os.path.join(place, program), "w") as script:
+        script.write(f'#!/bin/sh\n{lines}\nexec {shutil.which(program)} "$@"\n')
     os.chmod(script.name, 0o755)
     return f"{place}:{os.environ['PATH']}"
 
 
 def is_killed(checks, source, folder, db):
-    """Kills an import within a step that does not end. It ends at once, and so does the step."""
+    """Kills an import within a step that does not end. It ends at once, and so does the step: that of `sqlite3`, or that of the client."""
     mark = os.path.join(folder, "step")
-    path = with_own_sqlite(folder, "slow", f'case "$*" in *rows.db) echo $$ > {mark}.new; mv {mark}.new {mark}; exec sleep 100 ;; esac')
+    hangs = f"{{ echo $$ > {mark}.new; mv {mark}.new {mark}; exec sleep 100; }}"
+    if source.name == "SQLite":
+        path = with_own(folder, "sqlite3", f'case "$*" in *rows.db) {hangs} ;; esac')
+    else:
+        # The statements that read the rows end with one that names this table.
+        path = with_own(folder, client_of(source), f'cat > {mark}.text; ! grep -q in_end {mark}.text || {hangs}; exec < {mark}.text')
     child = subprocess.Popen([SCRIPT, db, "--program", checks.program, *source.words], env={**os.environ, "PATH": path}, stdout=subprocess.PIPE, stderr=subprocess.PIPE)
-    while not os.path.exists(mark):
+    while not os.path.exists(mark) and child.poll() is None:
         time.sleep(0.01)
     started = time.monotonic()
     child.terminate()
-    found = child.communicate()
-    checks.check("an import that is killed", (child.returncode, found, time.monotonic() - started < 20), (3, (b"", b""), True))
+    # A shell may say of the client that it was terminated.
+    found, _ = child.communicate()
+    checks.check("an import that is killed", (child.returncode, found, time.monotonic() - started < 20), (3, b"", True))
     checks.check("leaves nothing", [it for it in os.listdir(folder) if it.startswith("new.db")], [])
     with open(mark) as number:
         checks.check("and no step", os.path.exists(f"/proc/{number.read().strip()}"), False)
+    os.remove(mark)
+
+
+def client_of(source):
+    """Returns the name of the client of a server."""
+    return "psql" if source.name == "PostgreSQL" else "mysql"
 
 
 def is_old(checks, source, folder, db):
     """Imports by a `sqlite3` that lacks a function, as one before 3.32."""
-    path = with_own_sqlite(folder, "old", 'case "$*" in *iif*) echo "Error: no such function: iif" >&2; exit 1 ;; --version) echo 3.26.0; exit ;; esac')
+    path = with_own(folder, "sqlite3", 'case "$*" in *iif*) echo "Error: no such function: iif" >&2; exit 1 ;; --version) echo 3.26.0; exit ;; esac')
     found = run_import(checks, db, *source.words, PATH=path)
     checks.check("an old sqlite3", found, (3, "", "import.sh: sqlite3 is too old, since 3.32 is needed: 3.26.0\n"))
 
@@ -746,7 +758,7 @@ def lost(checks, source, db):
 
 def cut(checks, source, folder, db):
     """Tries a client that prints some rows and ends with status 0."""
-    name = "psql" if source.name == "PostgreSQL" else "mysql"
+    name = client_of(source)
     place = os.path.join(folder, "cutting")
     os.makedirs(place, exist_ok=True)
     with open(os.path.join(place, name), "w") as script:

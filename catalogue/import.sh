@@ -139,7 +139,9 @@ mkdir -m 700 -- "$work" || fail "no folder can be made beside $new"
 step=''
 # Ends what still runs, and removes the folder.
 clean() {
-    [ -z "$step" ] || kill "$step" 2> /dev/null || :
+    for number in $step $(cat "$work/client" 2> /dev/null); do
+        kill "$number" 2> /dev/null || :
+    done
     rm -rf -- "$work"
 }
 trap clean EXIT
@@ -162,9 +164,16 @@ wait_for_step() {
     return $status
 }
 
-# Run the client of the database, with statements from standard input.
+# Run the client of the database, with statements from standard input. While it runs, a file has its number.
+run_client() {
+    status=0
+    sh -c 'echo $$ > "$0" && exec "$@"' "$work/client" "$@" || status=$?
+    rm -f -- "$work/client"
+    return $status
+}
+
 run_pgsql() {
-    PGCLIENTENCODING=SQL_ASCII psql -X -q -A -t -v ON_ERROR_STOP=1 ${host:+-h "$host"} ${port:+-p "$port"} ${user:+-U "$user"} -d "$base"
+    run_client env PGCLIENTENCODING=SQL_ASCII psql -X -q -A -t -v ON_ERROR_STOP=1 ${host:+-h "$host"} ${port:+-p "$port"} ${user:+-U "$user"} -d "$base"
 }
 
 run_mysql() {
@@ -173,7 +182,7 @@ run_mysql() {
     ?*) set -- --host="$host" ;;
     *) set -- ;;
     esac
-    $mysql "$@" ${port:+--port="$port"} ${user:+--user="$user"} --batch --raw --quick --skip-column-names --database="$base"
+    run_client $mysql "$@" ${port:+--port="$port"} ${user:+--user="$user"} --batch --raw --quick --skip-column-names --database="$base"
 }
 
 # Whether the names of files are in a table of their own, as before Bacula 11, and which text of SQL limits the jobs.
