@@ -635,6 +635,7 @@ def refuses(checks, source, folder):
     if source.name == "SQLite":
         waits(checks, source, db)
         is_old(checks, source, folder, db)
+        other_shells(checks, source, db)
     if source.name != "SQLite":
         cut(checks, source, folder, db)
     if source.name == "MariaDB":
@@ -684,6 +685,16 @@ def is_killed(checks, source, folder, db):
     with open(mark) as number:
         checks.check("and no step", os.path.exists(f"/proc/{number.read().strip()}"), False)
     os.remove(mark)
+
+
+def other_shells(checks, source, db):
+    """Imports by other shells than the system's `sh`, as far as they are installed."""
+    for words in (["bash"], ["bash", "--posix"], ["dash"], ["ksh"], ["busybox", "sh"]):
+        if shutil.which(words[0]):
+            ran = subprocess.run([*words, SCRIPT, db, "--program", checks.program, *source.words, "--strict"], capture_output=True, text=True)
+            checks.check(f"an import by {' '.join(words)}", (ran.returncode, ran.stdout, ran.stderr), (0, "imported 2 4\n", ""))
+            with contextlib.suppress(FileNotFoundError):
+                os.remove(db)
 
 
 def client_of(source):

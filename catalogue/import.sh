@@ -97,7 +97,7 @@ for file in stage.sql rules.sql "$kind.sql"; do
     [ -r "$here/$file" ] || fail "$here/$file is missing: call the script by its own path, not by a link"
 done
 needs sqlite3 ': install it'
-sqlite3 -init /dev/null :memory: "SELECT iif(json_extract('[1]', '$[0]') = row_number() OVER (), 1, 0)" > /dev/null 2>&1 ||
+sqlite3 -init /dev/null :memory: "SELECT iif(json_extract('[1]', '\$[0]') = row_number() OVER (), 1, 0)" > /dev/null 2>&1 ||
     fail "sqlite3 is too old, since 3.32 is needed: $(sqlite3 --version)"
 needs "$program" ': put its folder into PATH, or give --program FILE'
 case $kind in
@@ -182,7 +182,7 @@ run_mysql() {
     ?*) set -- --host="$host" ;;
     *) set -- ;;
     esac
-    run_client $mysql "$@" ${port:+--port="$port"} ${user:+--user="$user"} --batch --raw --quick --skip-column-names --database="$base"
+    run_client "$mysql" "$@" ${port:+--port="$port"} ${user:+--user="$user"} --batch --raw --quick --skip-column-names --database="$base"
 }
 
 # Whether the names of files are in a table of their own, as before Bacula 11, and which text of SQL limits the jobs.
