@@ -1,9 +1,9 @@
 #!/usr/bin/env python3
 """Measures an import of Bacula's catalogue by catalogue/import.sh: time and peak memory for 100,000 and 1,000,000 rows of File.
 
-The script makes a catalogue in Bacula's tables, in files of SQLite and, if it is installed, in PostgreSQL: a Full of all rows, ten files to a
-folder, in the order in which PostgreSQL or SQLite keeps them. It imports it, and counts the rows. Beside it the client of PostgreSQL alone
-prints the same rows; of SQLite there is no client beside the import.
+The script makes a catalogue in Bacula's tables, in a file of SQLite and, if they are installed, in PostgreSQL and MariaDB: a Full of all
+rows, ten files to a folder. It imports it, and counts the rows. A second import has a stand-in for the last step, `brestore jobs`. Beside
+them the client of the server alone prints the same rows; of SQLite there is no client beside the import.
 
     bench/importing.py                    100,000 and 1,000,000 rows
     bench/importing.py --rows N ..        these
@@ -59,9 +59,9 @@ def fill(source, rows):
 
 
 def exported(source):
-    """Returns the seconds in which the client of the database alone prints the rows."""
+    """Returns the seconds in which the client of a server alone prints the rows, and None for SQLite."""
     if source.name == "SQLite":
-        return 0
+        return None
     with open(os.path.join(FOLDER, "pgsql.sql" if source.name == "PostgreSQL" else "mysql.sql")) as text:
         lines = text.read()
     for word, value in {"@names@": "", "@name@": "f.Filename", "@within@": "1 = 1", "@all@": "1", "@": ""}.items():
@@ -92,7 +92,8 @@ def measure(source, rows, program, folder):
         found.append(f"{seconds:.1f} s ({processor:.1f} s of the processor), at most {memory / MIB:.0f} MiB")
         with contextlib.suppress(FileNotFoundError):
             os.remove(db)
-    text = f"{found[0]}, without `brestore jobs` {found[1]}, the client alone {exported(source):.1f} s"
+    alone = exported(source)
+    text = f"{found[0]}, without `brestore jobs` {found[1]}" + ("" if alone is None else f", the client alone {alone:.1f} s")
     print(f"{source.name}, {rows} rows: {text if is_whole else 'FAILED'}", flush=True)
     return is_whole
 

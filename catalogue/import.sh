@@ -156,12 +156,13 @@ run_sqlite() {
     (exec_sqlite "$@")
 }
 
-# Waits for the step that was started last, and returns its status. A shell that waits hears a signal at once.
+# Waits for the step that was started last, and then for all before it in its pipe. A shell that waits hears a signal at once.
 wait_for_step() {
     step=$! status=0
     wait "$step" || status=$?
     step=''
-    return $status
+    [ $status = 0 ] || return $status
+    wait
 }
 
 # Run the client of the database, with statements from standard input. While it runs, a file has its number.

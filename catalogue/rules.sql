@@ -281,10 +281,12 @@ INSERT INTO new.FileSet SELECT row_number() OVER (ORDER BY fileset), fileset FRO
 INSERT INTO new.Media
   SELECT row_number() OVER (ORDER BY volume), volume, 'File'
   FROM (SELECT DISTINCT s.volume FROM span s JOIN job j ON j.JobId = s.JobId WHERE j.kind IS NULL);
+-- Of equal paths the one of the least number.
+CREATE TABLE place(folder INTEGER PRIMARY KEY, PathId INTEGER NOT NULL);
+INSERT OR IGNORE INTO place SELECT number, PathId FROM folder ORDER BY PathId;
 INSERT INTO new.Path
-  SELECT u.PathId, p.Path FROM used u JOIN (SELECT number, min(PathId) AS PathId FROM folder GROUP BY number) f ON f.number = u.folder
-    JOIN in_path p ON p.PathId = f.PathId
-  ORDER BY u.PathId;
+  SELECT u.PathId, p.Path FROM used u CROSS JOIN place f ON f.folder = u.folder CROSS JOIN in_path p ON p.PathId = f.PathId
+  ORDER BY u.folder;
 INSERT INTO new.Job
   SELECT j.JobId, 'B', j.level, c.ClientId, j.status, j.start, f.FileSetId, j.VolSessionId, j.VolSessionTime
   FROM job j JOIN new.Client c ON c.Name = j.client JOIN new.FileSet f ON f.FileSet = j.fileset
