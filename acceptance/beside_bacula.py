@@ -60,11 +60,12 @@ Pool {{ Name = Default; Pool Type = Backup; Recycle = no; AutoPrune = no; Label 
 Messages {{ Name = Standard; append = "{top}/log" = all; }}
 Job {{ Name = Restore; Type = Restore; Client = mars-fd; FileSet = Home; Storage = Disk; Pool = Default; Messages = Standard; }}
 """
+# A backup is slow enough to be held where it should be, also on a machine with much else to do.
 CLIENT = """
 Client {{ Name = {name}-fd; Address = 127.0.0.1; FDPort = {port}; Catalog = Own; Password = "p"; AutoPrune = no; }}
 FileSet {{ Name = {fileset}; Include {{ Options {{ {options}; }}; File = "{top}/{name}"; }} }}
 Job {{ Name = {name}; Type = Backup; Client = {name}-fd; FileSet = {fileset}; Storage = Disk; Pool = Default; Messages = Standard
-  Accurate = {accurate}; Maximum Concurrent Jobs = 5; }}
+  Accurate = {accurate}; Maximum Concurrent Jobs = 5; Maximum Bandwidth = 2 mb/s; }}
 """
 STORAGE = """
 Storage {{ Name = test-sd; SDPort = {sd}; SDAddress = 127.0.0.1; WorkingDirectory = "{top}/work"; Pid Directory = "{top}/work"
