@@ -4,13 +4,13 @@ ghost use Rattle.br_pool.specs.Pool.{AreDrives};
 ghost use Rattle.br_volume.specs.HostDrives.{AreOver, AreUntold};
 ghost use Rattle.br_cli.specs.Serving.{IsFolder};
 
-use br_console::{DriveCount, DrivenRestore, DrivenStore, restore_by};
+use br_console::{DriveCount, DrivenRestore, DrivenStore, VolumeReader, restore_by};
 use br_engine::{Budget, ExtractFault, Restore, RestoreEnd};
 use br_fs::HostDisk;
 use br_sink::MemSink;
 use br_types::VolName;
 use br_volume::{FolderStore, HostDrive, VolumeFault, VolumeStore, drives_over};
-use std::alloc::AllocError;
+use std::alloc::{AllocError, Global};
 use std::io::Write;
 use std::sync::Wait;
 use std::thread::Threads;
@@ -35,6 +35,25 @@ impl<'r> FolderVolumes<'r> {
         })
     }
 
+    /// Returns a reader of the same folder.
+    fn folder_reader(&self, alloc: Global) -> Result<FolderReader<'r>, AllocError>
+        ensures { IfOk result (λ reader. string_bytes reader.path ≡ string_bytes self.now.path) }
+    {
+        Ok(FolderReader {
+            rt: self.rt,
+            path: String::from_str(alloc, self.path.as_str())?,
+        })
+    }
+}
+
+/// A reader of the volumes in a folder of the system. It reads what the folder has at the time.
+#[derive(Drop)]
+pub struct FolderReader<'r> {
+    rt: &'r HostRuntime,
+    path: String,
+}
+
+impl<'r> FolderReader<'r> {
     /// Returns this number of drives over the volumes.
     fn drives(&self, count: DriveCount) -> Result<Vec<HostDrive<'r>>, AllocError>
         ensures many { IfOk result (λ drives. length drives.items ≡ count) }
@@ -68,7 +87,11 @@ impl VolumeStore for FolderVolumes<'_> {
     }
 }
 
-impl DrivenStore for FolderVolumes<'_> {
+impl VolumeReader for FolderReader<'_> {
+    ghost use Rattle.std.specs.Prelude.{None};
+
+    ghost shows = { λ _. None };
+
     #[tactic(auto, using(br_console::proofs::DrivenLaws::no_drives))]
     fn restore<T: Threads + Wait + Sync, W: Write>(
         &self,
@@ -84,5 +107,13 @@ impl DrivenStore for FolderVolumes<'_> {
             sink: None,
         };
         restore_by(rt, &mut restore, wanted, writer)
+    }
+}
+
+impl<'r> DrivenStore for FolderVolumes<'r> {
+    type Reader = FolderReader<'r>;
+
+    fn reader(&self, alloc: Global) -> Result<FolderReader<'r>, AllocError> {
+        self.folder_reader(alloc)
     }
 }

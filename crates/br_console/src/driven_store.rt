@@ -1,5 +1,5 @@
 //! Volumes over which restores run while jobs are appended to them.
-ghost use Rattle.std.specs.Prelude.{◌≡◌, length, true};
+ghost use Rattle.std.specs.Prelude.{◌≡◌, length, true, IfOk};
 ghost use Rattle.std.specs.List.{list_all};
 ghost use Rattle.std.specs.Thread.{IsSync};
 ghost use Rattle.br_model.specs.BootstrapText.{is_group};
@@ -14,6 +14,7 @@ use br_engine::{Budget, ExtractFault, Restore, RestoreEnd, RestoreOrder};
 use br_sink::{MemSink, Sink};
 use br_types::Names;
 use br_volume::{Drive, MemStore, VolumeStore};
+use std::alloc::{AllocError, Global};
 use std::io::Write;
 use std::sync::Wait;
 use std::thread::Threads;
@@ -27,8 +28,14 @@ pub struct DrivenRestore<'b> {
     pub names: Option<Names>,
 }
 
-/// A store of volumes that has drives.
-pub trait DrivenStore: VolumeStore {
+/// A reader of the volumes of a store, which may grow meanwhile.
+pub trait VolumeReader {
+    ghost use Rattle.std.specs.Prelude.{List, Option};
+    ghost use Rattle.br_model.specs.Volume.{Volume};
+
+    /// The volumes that it shows, if it reports them.
+    ghost shows: { Self → Option (List Volume) };
+
     /// Restores by drives over the volumes, writes the manifest and flushes it.
     ///
     /// # Errors
@@ -42,7 +49,35 @@ pub trait DrivenStore: VolumeStore {
         writer: &mut W,
     ) -> Result<RestoreEnd, ExtractFault>
         requires threads { IsSync T.row }
-        ensures restored { RestoresWanted (Self.holds self.now) wanted.entry (W.contents writer.old) (W.contents writer.new) result };
+        ensures restored { RestoresWanted (Self.shows self.now) wanted.entry (W.contents writer.old) (W.contents writer.new) result };
+}
+
+/// A store of volumes that has readers.
+pub trait DrivenStore: VolumeStore {
+    type Reader: VolumeReader + Drop;
+
+    /// Returns a reader of the volumes, which takes its memory from this allocator.
+    fn reader(&self, alloc: Global) -> Result<Self::Reader, AllocError>
+        ensures shows { IfOk result (λ reader. Self.Reader.shows reader ≡ Self.holds self.now) };
+}
+
+/// Restores by a new reader of a store, writes the manifest and flushes it.
+///
+/// # Errors
+///
+/// As the reader's `restore`, and `Memory` if memory runs out for the reader.
+#[tactic(auto, using(crate::proofs::DrivenLaws::no_drives))]
+pub(crate) fn restore_over<T: Threads + Wait + Sync, V: DrivenStore, W: Write>(
+    rt: &T,
+    volumes: &V,
+    budget: Budget,
+    wanted: DrivenRestore<'_>,
+    writer: &mut W,
+) -> Result<RestoreEnd, ExtractFault>
+    ensures restored { RestoresWanted (V.holds volumes.now) wanted.entry (W.contents writer.old) (W.contents writer.new) result }
+{
+    let reader = volumes.reader(budget.alloc)?;
+    reader.restore(rt, budget, wanted, writer)
 }
 
 /// Restores by these drives, as many as are wanted: writes the manifest and flushes it, and then
@@ -76,7 +111,11 @@ fn groups_are_valid(bootstrap: &Bootstrap)
     let _groups = bootstrap.groups();
 }
 
-impl DrivenStore for MemStore {
+impl VolumeReader for MemStore {
+    ghost use Rattle.std.specs.Prelude.{Some};
+
+    ghost shows = { λ s. Some s.volumes };
+
     #[tactic(auto, using(crate::proofs::DrivenLaws::no_drives))]
     fn restore<T: Threads + Wait + Sync, W: Write>(
         &self,
@@ -93,5 +132,14 @@ impl DrivenStore for MemStore {
             sink: None,
         };
         restore_by(rt, &mut restore, wanted, writer)
+    }
+}
+
+impl DrivenStore for MemStore {
+    type Reader = MemStore;
+
+    /// Returns a copy of the store, which later appends leave as it is.
+    fn reader(&self, alloc: Global) -> Result<MemStore, AllocError> {
+        self.copy(alloc)
     }
 }

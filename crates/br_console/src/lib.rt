@@ -6,9 +6,10 @@
 //!
 //! A script fills volumes, commits jobs, and restores by bootstraps and by dialogues with the
 //! console, line by line. `run_script` works in memory, and `run_script_over` with any catalogue
-//! and any store of volumes that has drives. Such a `DrivenStore` restores with a `DriveCount` of
-//! drives, each of which shows all of its volumes, while jobs may be appended to them. A store in
-//! memory is one: each of its drives is a `FixedDrive`, over volumes that stay as they are.
+//! and any store of volumes that has readers. The reader of such a `DrivenStore` restores with a
+//! `DriveCount` of drives, each of which shows all of its volumes, and does not borrow the store. A
+//! store in memory has one: each of its drives is a `FixedDrive`, over volumes that stay as they
+//! are.
 #![tactic(auto)]
 
 mod console_fault;
@@ -34,7 +35,7 @@ mod talking;
 
 pub use console_fault::ConsoleFault;
 pub use drive_count::{DriveCount, drives_over};
-pub use driven_store::{DrivenRestore, DrivenStore, restore_by};
+pub use driven_store::{DrivenRestore, DrivenStore, VolumeReader, restore_by};
 pub use ending::{ConsoleRun, End, LineVerdict, SessionEnd, SessionOutcome};
 pub use fixed_drive::FixedDrive;
 pub use forgetful::Forgetful;

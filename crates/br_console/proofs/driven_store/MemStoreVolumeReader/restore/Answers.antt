@@ -2,7 +2,7 @@ use Rattle.std.proofs.Common.{List, subst}
 use Rattle.br_model.specs.Volume.{Volume}
 use Rattle.br_console.specs.DriveCount.{EachShows}
 use Rattle.br_console.proofs.DrivenLaws.{shown_restored}
-use Rattle.br_console.proofs.driven_store.MemStoreDrivenStore.restore.Goals as goal
+use Rattle.br_console.proofs.driven_store.MemStoreVolumeReader.restore.Goals as goal
 
 pub returns : goal.returns
 returns g c =

@@ -1,5 +1,5 @@
 use Rattle.br_cli.proofs.VolumesLaws.{restored_untold}
-use Rattle.br_cli.proofs.folder_volumes.FolderVolumesDrivenStore.restore.Goals as goal
+use Rattle.br_cli.proofs.folder_volumes.FolderReaderVolumeReader.restore.Goals as goal
 
 pub returns : goal.returns
 returns g c = record {
