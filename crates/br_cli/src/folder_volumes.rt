@@ -34,19 +34,10 @@ impl<'r> FolderVolumes<'r> {
             store: FolderStore::new(rt.alloc(), rt, path)?,
         })
     }
-
-    /// Returns a reader of the same folder.
-    fn folder_reader(&self, alloc: Global) -> Result<FolderReader<'r>, AllocError>
-        ensures { IfOk result (λ reader. string_bytes reader.path ≡ string_bytes self.now.path) }
-    {
-        Ok(FolderReader {
-            rt: self.rt,
-            path: String::from_str(alloc, self.path.as_str())?,
-        })
-    }
 }
 
-/// A reader of the volumes in a folder of the system. It reads what the folder has at the time.
+/// A reader of the volumes in a folder of the system. It reads what the files have at the time, and
+/// reports no volumes.
 #[derive(Drop)]
 pub struct FolderReader<'r> {
     rt: &'r HostRuntime,
@@ -111,9 +102,19 @@ impl VolumeReader for FolderReader<'_> {
 }
 
 impl<'r> DrivenStore for FolderVolumes<'r> {
+    ghost use Rattle.std.specs.Prelude.{List, None, Option};
+    ghost use Rattle.br_model.specs.Volume.{Volume};
+
     type Reader = FolderReader<'r>;
 
-    fn reader(&self, alloc: Global) -> Result<FolderReader<'r>, AllocError> {
-        self.folder_reader(alloc)
+    /// Returns a reader of the same folder.
+    fn reader(&self, alloc: Global) -> Result<FolderReader<'r>, AllocError>
+        ensures shows { IfOk result (λ _. ◌≡◌ {A = Option (List Volume)} None None) }
+        ensures folder { IfOk result (λ reader. string_bytes reader.path ≡ string_bytes self.now.path) }
+    {
+        Ok(FolderReader {
+            rt: self.rt,
+            path: String::from_str(alloc, self.path.as_str())?,
+        })
     }
 }

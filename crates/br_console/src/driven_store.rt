@@ -28,7 +28,8 @@ pub struct DrivenRestore<'b> {
     pub names: Option<Names>,
 }
 
-/// A reader of the volumes of a store, which may grow meanwhile.
+/// A reader of the volumes that a store had when the reader was made. It does not borrow the store,
+/// and what is appended to the store later changes nothing of what it shows.
 pub trait VolumeReader {
     ghost use Rattle.std.specs.Prelude.{List, Option};
     ghost use Rattle.br_model.specs.Volume.{Volume};
