@@ -68,7 +68,7 @@ pub trait DrivenStore: VolumeStore {
 ///
 /// As the reader's `restore`, and `Memory` if memory runs out for the reader.
 #[tactic(auto, using(crate::proofs::DrivenLaws::no_drives))]
-pub(crate) fn restore_over<T: Threads + Wait + Sync, V: DrivenStore, W: Write>(
+pub(crate) fn restore_by_reader<T: Threads + Wait + Sync, V: DrivenStore, W: Write>(
     rt: &T,
     volumes: &V,
     budget: Budget,

@@ -7,7 +7,7 @@ ghost use Rattle.br_console.specs.ScriptKeeper.{IsOwn, SeesMore};
 ghost use Rattle.br_console.specs.ScriptEnding.{EndsDialogueBy, RefusesBy, RestoresPlan, RunsKeptBy};
 
 use crate::console_fault::ConsoleFault;
-use crate::driven_store::{DrivenRestore, DrivenStore, restore_over};
+use crate::driven_store::{DrivenRestore, DrivenStore, restore_by_reader};
 use crate::ending::LineVerdict;
 use crate::restore_line::read_request;
 use crate::running::prepare;
@@ -151,7 +151,7 @@ impl<C: JobStore, V: DrivenStore> Script<C, V> {
             names: None,
         };
         let volumes = self.desk.keeper.volumes();
-        let result = restore_over(rt, volumes, self.budget(), wanted, writer);
+        let result = restore_by_reader(rt, volumes, self.budget(), wanted, writer);
         self.end_restore(result, writer)
     }
 
@@ -173,7 +173,7 @@ impl<C: JobStore, V: DrivenStore> Script<C, V> {
             names: Some(names),
         };
         let volumes = self.desk.keeper.volumes();
-        let result = restore_over(rt, volumes, self.budget(), wanted, writer);
+        let result = restore_by_reader(rt, volumes, self.budget(), wanted, writer);
         self.end_restore(result, writer)
     }
 
