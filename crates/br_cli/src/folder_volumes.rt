@@ -39,20 +39,20 @@ impl<'r> FolderVolumes<'r> {
 /// A reader of the volumes in a folder of the system. It reads what the files have at the time, and
 /// reports no volumes.
 #[derive(Drop)]
-pub struct FolderReader<'r> {
-    rt: &'r HostRuntime,
+pub struct FolderReader {
+    rt: HostRuntime,
     path: String,
 }
 
-impl<'r> FolderReader<'r> {
+impl FolderReader {
     /// Returns this number of drives over the volumes.
-    fn drives(&self, count: DriveCount) -> Result<Vec<HostDrive<'r>>, AllocError>
+    fn drives(&self, count: DriveCount) -> Result<Vec<HostDrive<'_>>, AllocError>
         ensures many { IfOk result (λ drives. length drives.items ≡ count) }
         ensures few { IfOk result (λ drives. AreDrives drives.items) }
         ensures over { IfOk result (λ drives. AreOver (string_bytes self.now.path) drives.items) }
         ensures untold { IfOk result (λ drives. AreUntold drives.items) }
     {
-        drives_over(self.rt, self.path.as_str(), count.get())
+        drives_over(&self.rt, self.path.as_str(), count.get())
     }
 }
 
@@ -78,7 +78,7 @@ impl VolumeStore for FolderVolumes<'_> {
     }
 }
 
-impl VolumeReader for FolderReader<'_> {
+impl VolumeReader for FolderReader {
     ghost use Rattle.std.specs.Prelude.{None};
 
     ghost shows = { λ _. None };
@@ -101,19 +101,19 @@ impl VolumeReader for FolderReader<'_> {
     }
 }
 
-impl<'r> DrivenStore for FolderVolumes<'r> {
+impl DrivenStore for FolderVolumes<'_> {
     ghost use Rattle.std.specs.Prelude.{List, None, Option};
     ghost use Rattle.br_model.specs.Volume.{Volume};
 
-    type Reader = FolderReader<'r>;
+    type Reader = FolderReader;
 
     /// Returns a reader of the same folder.
-    fn reader(&self, alloc: Global) -> Result<FolderReader<'r>, AllocError>
+    fn reader(&self, alloc: Global) -> Result<FolderReader, AllocError>
         ensures shows { IfOk result (λ _. ◌≡◌ {A = Option (List Volume)} None None) }
         ensures folder { IfOk result (λ reader. string_bytes reader.path ≡ string_bytes self.now.path) }
     {
         Ok(FolderReader {
-            rt: self.rt,
+            rt: *self.rt,
             path: String::from_str(alloc, self.path.as_str())?,
         })
     }

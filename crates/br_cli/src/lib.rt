@@ -3,8 +3,8 @@
 //!
 //! `extract` and `check` restore and check by a bootstrap. `serve` runs scripts that commit jobs and
 //! restore, over a catalogue in a file and volumes in a folder, or in memory: `set_up_serve` makes a
-//! keeper of both, `serve_over` runs a script over it, and `FolderVolumes` are the volumes. The
-//! caller provides the jobs of a catalogue, as a `Catalogue` of br_keeper.
+//! keeper of both, `serve_over` runs a script over it, and `FolderVolumes` are the volumes, which a
+//! `FolderReader` reads. The caller provides the jobs of a catalogue, as a `Catalogue` of br_keeper.
 #![tactic(auto)]
 
 mod check_command;
@@ -21,7 +21,7 @@ pub use explain_command::{explain_all, explain_number};
 pub use extract_command::{
     ExtractStartFault, Extraction, extract_ending, extract_files, extract_over, set_up_extract,
 };
-pub use folder_volumes::FolderVolumes;
+pub use folder_volumes::{FolderReader, FolderVolumes};
 pub use memory_script::{answer, serve_memory};
 pub use migrate_command::migrate_catalogue;
 pub use serve_command::{
