@@ -36,3 +36,4 @@ pub mod CrashLaws
 pub mod LookCopies
 pub mod LookFolds
 pub mod LookParts
+pub mod LookMoments

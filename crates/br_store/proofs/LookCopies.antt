@@ -1,5 +1,5 @@
 -- A database in memory, and what it shows.
-use Rattle.std.proofs.Common.{◌≡◌, ◌<◌, ℕ, List, [], ◌∷◌, length, slice_index, Option, Some, None, Result, Ok, Err, IfOk, IfSome, refl, arith, subst, subst₂}
+use Rattle.std.proofs.Common.{◌≡◌, ◌<◌, ℕ, List, [], ◌∷◌, length, slice_index, Option, Some, None, Result, Ok, Err, IfOk, refl, arith, subst, subst₂}
 use Rattle.std.proofs.lemmas.List.{ext_get_or}
 use Rattle.sqlite_disk.specs.declared.Disk.{Ghosts}
 use Rattle.sqlite_disk.specs.declared.Files.{Files}
@@ -8,9 +8,9 @@ use Rattle.sqlite_store.specs.declared.store.FileStore.{FileStore}
 use Rattle.sqlite.specs.Held.{Held}
 use Rattle.sqlite.specs.Start.{FindsIn}
 use Rattle.sqlite.specs.Files.{Finds, file_state}
-use Rattle.sqlite.specs.State.{HasCleanDisk}
 use Rattle.br_store.specs.Scene.{Scene}
-use Rattle.br_store.specs.Look.{together, ShowsFiles}
+use Rattle.br_store.specs.Moments.{AreHeld}
+use Rattle.br_store.specs.Look.{together, HasFile, ShowsFiles, ShowsIn}
 
 -- an empty file has the bytes that were written to its start
 pub held_all : (file bytes : List ℕ) → (0 < length bytes → Holds file 0 bytes) → Torn 0 (length bytes) [] file → file ≡ bytes
@@ -27,12 +27,11 @@ pub found_in : {D : Type 0} {g : Ghosts D} (files : Files D) (c : Held (FileStor
 found_in files c bytes log db left found =
     subst₂ (λ xs ys. FindsIn (together xs ys) (file_state c)) db left (record { holds = found.holds; reads = found.reads })
 
--- what was found in copies is what the files hold
-pub shown : {D E : Type 0} {g : Ghosts D} (told : Option Scene) (bytes log : List ℕ) (result : Result (Held (FileStore D g)) E)
-    → IfSome told (λ scene. bytes ≡ scene.bytes) → IfSome told (λ scene. log ≡ scene.log)
-    → IfOk result (λ c. HasCleanDisk (file_state c) → FindsIn (together bytes log) (file_state c))
-    → IfOk result (λ c. HasCleanDisk (file_state c) → ShowsFiles told (file_state c))
-shown told bytes log (Err e) first second finds = tt
-shown None bytes log (Ok c) first second finds = λ clean. tt
-shown (Some scene) bytes log (Ok c) first second finds =
-    λ clean. subst₂ (λ xs ys. FindsIn (together xs ys) (file_state c)) first second (finds clean)
+-- what was found in copies is what the files held at some moment
+pub shown : {D E : Type 0} {g : Ghosts D} (told : Option (ℕ → Scene)) (from to : ℕ) (bytes log : List ℕ) (result : Result (Held (FileStore D g)) E)
+    → AreHeld told from to bytes log → HasFile bytes log → IfOk result (λ c. ShowsIn (together bytes log) (file_state c))
+    → IfOk result (λ c. ShowsFiles told from to (file_state c))
+shown told from to bytes log (Err e) are present finds = tt
+shown None from to bytes log (Ok c) are present finds = tt
+shown (Some scenes) from to bytes log (Ok c) are present finds = λ kept.
+    record { bytes = bytes; log = log; copied = are kept; present = present; shows = finds }

@@ -1,5 +1,5 @@
 -- The jobs are read, and then the files that they need.
-use Rattle.std.proofs.Common.{◌≡◌, ℕ, List, Option, Some, None, Result, Ok, Err, ap}
+use Rattle.std.proofs.Common.{◌≡◌, ℕ, List, Option, Some, None, Result, Ok, ap}
 use Rattle.br_model.specs.Answer.{◌>>=◌, IsRefusal}
 use Rattle.br_model.specs.Job.{JobRows}
 use Rattle.br_catalog_rows.specs.Load.{read_history, read_needed, with_files_of, without_files}

@@ -6,5 +6,6 @@ pub mod Calls
 pub mod Kept
 pub mod Crash
 pub mod Scene
+pub mod Moments
 pub mod Look
 pub mod LookFolded

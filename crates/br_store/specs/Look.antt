@@ -1,9 +1,10 @@
 -- The database that is shown for a catalogue's file and its log.
-use Rattle.std.specs.Prelude.{◌≡◌, ◌<◌, List, ℕ, [], length, false, Option, IfSome}
+use Rattle.std.specs.Prelude.{◌≡◌, ◌<◌, ◌≤◌, List, ℕ, [], length, Option}
 use Rattle.sqlite_wal.specs.Recovery.{Image}
 use Rattle.sqlite.specs.State.{State, HasCleanDisk}
 use Rattle.sqlite.specs.Start.{FindsIn}
 use Rattle.br_store.specs.Scene.{Scene}
+use Rattle.br_store.specs.Moments.{AreAtOnce, WhileKept}
 use Rattle.br_store.specs.declared.look_fault.LookFault.{LookFault}
 use Rattle.br_store.specs.declared.look_fault.LookFault.TheVariants.{Memory}
 
@@ -19,21 +20,25 @@ alone bytes = record { log = []; db = bytes }
 abbrev pub HasFile : List ℕ → List ℕ → Type 0
 HasFile bytes log = length bytes ≡ 0 → length log < 56
 
+-- the file has no bytes, and its log has room for these headers
+abbrev pub IsGone : List ℕ → List ℕ → Type 0
+IsGone bytes log = (length bytes ≡ 0) × (56 ≤ length log)
+
 -- on a clean disk the state is the database that a file and its log hold together
 abbrev pub ShowsIn : Image → State → Type 0
 ShowsIn image state = HasCleanDisk state → FindsIn image state
 
--- if the scene is told, no journal has to be rolled back
-abbrev pub IsSettled : Option Scene → Type 0
-IsSettled told = IfSome told (λ scene. scene.has_journal ≡ false)
+-- at some moment of a time the file was there, and it and its log held together the database that is shown
+pub record IsSeen (scenes : ℕ → Scene) (from to : ℕ) (state : State) : Type 0 where
+  pub bytes : List ℕ
+  pub log : List ℕ
+  pub copied : AreAtOnce scenes from to bytes log
+  pub present : HasFile bytes log
+  pub shows : ShowsIn (together bytes log) state
 
--- if the scene is told, its log is not that of a file which is gone
-abbrev pub IsPresent : Option Scene → Type 0
-IsPresent told = IfSome told (λ scene. HasFile scene.bytes scene.log)
-
--- if the scene is told, the database that is shown is the one that the file and its log hold together
-abbrev pub ShowsFiles : Option Scene → State → Type 0
-ShowsFiles told state = IfSome told (λ scene. FindsIn (together scene.bytes scene.log) state)
+-- the database that is shown was in the files in a time, if the scenes are told and show their changes
+abbrev pub ShowsFiles : Option (ℕ → Scene) → ℕ → ℕ → State → Type 0
+ShowsFiles told from to state = WhileKept told (λ scenes. IsSeen scenes from to state)
 
 -- the number of the refusal: 1 out of memory, 45 a catalogue that can't be read
 abbrev pub look_number : LookFault → ℕ

@@ -1,15 +1,17 @@
 //! A catalogue's file and its log, copied into memory and shown from there.
-ghost use Rattle.std.specs.Prelude.{◌≡◌, ◌<◌, ◌≤◌, length, Some, IfOk, IfSome, IsTrue, OnOk};
+ghost use Rattle.std.specs.Prelude.{◌≡◌, ◌<◌, ◌≤◌, ◌↔◌, false, true, length, IfOk, IsTrue, OnErr, OnOk};
 ghost use Rattle.sqlite_disk.specs.Memory.{memory_bytes, memory_is_usable};
 ghost use Rattle.sqlite.specs.Files.{file_state, IsOpened};
 ghost use Rattle.sqlite.specs.Held.{IsNew};
 ghost use Rattle.sqlite.specs.State.{HasCleanDisk};
-ghost use Rattle.br_store.specs.Scene.{IsFront, bytes_of};
-ghost use Rattle.br_store.specs.Look.{HasFile, IsPresent, IsSettled, ShowsFiles, ShowsIn, together};
+ghost use Rattle.br_store.specs.Scene.{At, bytes_of};
+ghost use Rattle.br_store.specs.Moments.{AreCopied, Continues, IsLogOf, IsMark, IsRead, front_of};
+ghost use Rattle.br_store.specs.Look.{HasFile, IsGone, ShowsFiles, ShowsIn, together};
 
 use crate::look_fault::LookFault;
-use crate::look_sight::{Sight, Stamp};
+use crate::look_sight::Sight;
 use crate::look_source::Source;
+use crate::look_stamp::Stamp;
 use sqlite::{Connection, Error as SqlError, ErrorCode, FileStore, Files, Options};
 use sqlite_disk::{Disk, Memory};
 use std::alloc::Global;
@@ -33,13 +35,44 @@ const HEADER: usize = 32;
 const LOG_ROOM: usize = HEADER + 24;
 
 /// By which it is known that neither the file was changed nor its log begun anew.
-#[derive(Clone, Copy, PartialEq)]
+#[derive(Clone, Copy)]
 struct Mark {
     stamp: Stamp,
     /// The first bytes of the log, before zeros if it has fewer.
     header: [u8; HEADER],
     /// The number of these bytes.
     len: usize,
+}
+
+/// Returns the first bytes of the log.
+fn front_of(mark: &Mark) -> &[u8]
+    requires { mark.now.len ≤ 32 }
+    ensures { result.now ≡ front_of mark.now }
+{
+    &mark.header[..mark.len]
+}
+
+/// Returns whether two marks are the same.
+fn are_same(one: &Mark, other: &Mark) -> bool
+    requires first { one.now.len ≤ 32 }
+    requires second { other.now.len ≤ 32 }
+    ensures stamp { result ≡ true → one.now.stamp ≡ other.now.stamp }
+    ensures front { result ≡ true → front_of one.now ≡ front_of other.now }
+{
+    one.stamp.is_same(&other.stamp) && front_of(one) == front_of(other)
+}
+
+/// Returns whether a log may be the marked one: if that has no whole header, it has nothing else.
+fn may_be(mark: &Mark, log: &[u8]) -> bool
+    requires { mark.now.len ≤ 32 }
+    ensures { result ≡ true → length (front_of mark.now) < 32 → log.now ≡ front_of mark.now }
+{
+    let front = front_of(mark);
+    if front.len() < HEADER {
+        log == front
+    } else {
+        log.starts_with(front)
+    }
 }
 
 /// The bytes of a catalogue's file and of its log.
@@ -51,8 +84,9 @@ struct Copied {
 
 /// Refuses a file beside a journal that has to be rolled back.
 fn check_journal<O: Sight>(sight: &mut O) -> Result<(), LookFault>
-    ensures settled { OnOk result (IsSettled (O.told sight.old)) }
+    ensures settled { OnOk result (At (O.told sight.old) (O.moment sight.new) (λ scene. scene.has_journal ≡ false)) }
     ensures same { O.told sight.new ≡ O.told sight.old }
+    ensures later { O.moment sight.old ≤ O.moment sight.new }
 {
     match sight.has_journal()? {
         false => Ok(()),
@@ -69,10 +103,11 @@ fn read_more<O: Sight>(
     part: &mut [u8],
     bytes: &mut Vec<u8>,
 ) -> Result<(), LookFault>
-    requires front { IfSome (O.told sight.old) (λ scene. IsFront (bytes_of source scene) bytes.old.items) }
-    ensures front { OnOk result (IfSome (O.told sight.old) (λ scene. IsFront (bytes_of source scene) bytes.new.items)) }
+    ensures read { OnOk result (At (O.told sight.old) (O.moment sight.new)
+        (λ scene. Continues (bytes_of source scene) bytes.old.items bytes.new.items)) }
     ensures more { OnOk result (length bytes.old.items < length bytes.new.items) }
     ensures same { O.told sight.new ≡ O.told sight.old }
+    ensures later { O.moment sight.old ≤ O.moment sight.new }
 {
     let n = sight.read_at(files, source, part, bytes.len())?;
     if n == 0 {
@@ -97,8 +132,8 @@ fn may_begin(source: Source, bytes: &[u8]) -> bool {
     }
 }
 
-/// Reads one of the files, which has this length. Stops after the first part of a file that is not a
-/// database.
+/// Reads one of the files, which has this length, without what is appended to it meanwhile. Stops after
+/// the first part of a file that is not a database.
 fn read_all<O: Sight>(
     alloc: Global,
     sight: &mut O,
@@ -106,9 +141,10 @@ fn read_all<O: Sight>(
     source: Source,
     len: u64,
 ) -> Result<Vec<u8>, LookFault>
-    requires len { IfSome (O.told sight.old) (λ scene. len ≡ length (bytes_of source scene)) }
-    ensures read { IfOk result (λ bytes. IfSome (O.told sight.old) (λ scene. bytes.items ≡ bytes_of source scene)) }
+    requires len { At (O.told sight.old) (O.moment sight.old) (λ scene. len ≡ length (bytes_of source scene)) }
+    ensures read { IfOk result (λ bytes. IsRead (O.told sight.old) source (O.moment sight.old) (O.moment sight.new) bytes.items) }
     ensures same { O.told sight.new ≡ O.told sight.old }
+    ensures later { O.moment sight.old ≤ O.moment sight.new }
 {
     let mut part = vec![in alloc; 0; STEP]?;
     let mut bytes = Vec::new(alloc);
@@ -118,26 +154,33 @@ fn read_all<O: Sight>(
             return Err(LookFault::Database(SqlError::SqliteFailure(ErrorCode::NotADatabase)));
         }
     }
+    bytes.truncate(len as usize);
     Ok(bytes)
 }
 
 /// Returns the mark of this moment. Its part of the log is the older one.
 fn mark_of<O: Sight>(sight: &mut O, files: &O::Files) -> Result<Mark, LookFault>
-    ensures len { IfOk result (λ mark. IfSome (O.told sight.old) (λ scene. mark.stamp.len ≡ length scene.bytes)) }
+    ensures marked { IfOk result (IsMark (O.told sight.old) (O.moment sight.old) (O.moment sight.new)) }
+    ensures len { IfOk result (λ mark. At (O.told sight.old) (O.moment sight.new) (λ scene. mark.stamp.len ≡ length scene.bytes)) }
     ensures fits { IfOk result (λ mark. mark.len ≤ 32) }
     ensures same { O.told sight.new ≡ O.told sight.old }
+    ensures later { O.moment sight.old ≤ O.moment sight.new }
 {
     let mut header = [0; HEADER];
-    let len = sight.read_at(files, Source::Log, &mut header, 0)?;
+    let len = sight.read_header(files, &mut header)?;
     let stamp = sight.stamp(files)?;
     Ok(Mark { stamp, header, len })
 }
 
 /// Refuses files that have another mark by now.
 fn check_mark<O: Sight>(sight: &mut O, files: &O::Files, mark: &Mark) -> Result<(), LookFault>
+    requires { mark.now.len ≤ 32 }
+    ensures marked { OnOk result (IsMark (O.told sight.old) (O.moment sight.old) (O.moment sight.new) mark.now) }
     ensures same { O.told sight.new ≡ O.told sight.old }
+    ensures later { O.moment sight.old ≤ O.moment sight.new }
 {
-    if mark_of(sight, files)? == *mark {
+    let found = mark_of(sight, files)?;
+    if are_same(&found, mark) {
         Ok(())
     } else {
         Err(LookFault::InUse)
@@ -152,39 +195,50 @@ fn read_log<O: Sight>(
     files: &O::Files,
     mark: &Mark,
 ) -> Result<Vec<u8>, LookFault>
-    requires fits { mark.now.len ≤ 32 }
-    ensures read { IfOk result (λ log. IfSome (O.told sight.old) (λ scene. log.items ≡ scene.log)) }
+    requires { mark.now.len ≤ 32 }
+    ensures read { IfOk result (λ log. IsLogOf (O.told sight.old) (O.moment sight.old) (O.moment sight.new) mark.now.stamp log.items) }
     ensures same { O.told sight.new ≡ O.told sight.old }
+    ensures later { O.moment sight.old ≤ O.moment sight.new }
 {
     check_mark(sight, files, mark)?;
     let len = sight.log_len(files)?;
     let log = read_all(alloc, sight, files, Source::Log, len)?;
     check_mark(sight, files, mark)?;
-    if log.starts_with(&mark.header[..mark.len]) {
+    if may_be(mark, &log) {
         Ok(log)
     } else {
         Err(LookFault::InUse)
     }
 }
 
+/// Returns whether a log of this length may have a page.
+fn has_page(len: usize) -> bool
+    ensures { IsTrue result ↔ 56 ≤ len }
+{
+    len >= LOG_ROOM
+}
+
 /// Refuses an empty file beside a log with room for a page: what is in such a log would not be shown.
 fn check_present(copied: &Copied) -> Result<(), LookFault>
     ensures present { OnOk result (HasFile copied.now.bytes.items copied.now.log.items) }
+    ensures gone { OnErr result (IsGone copied.now.bytes.items copied.now.log.items) }
 {
-    if copied.bytes.is_empty() && copied.log.len() >= LOG_ROOM {
+    if copied.bytes.is_empty() && has_page(copied.log.len()) {
         return Err(LookFault::InUse);
     }
     Ok(())
 }
 
-/// Reads both files, unless another program changes them.
+/// Reads both files, unless another program changes them or has begun to write by a journal.
 fn read_both<O: Sight>(alloc: Global, sight: &mut O, files: &O::Files) -> Result<Copied, LookFault>
-    ensures bytes { IfOk result (λ copied. IfSome (O.told sight.old) (λ scene. copied.bytes.items ≡ scene.bytes)) }
-    ensures log { IfOk result (λ copied. IfSome (O.told sight.old) (λ scene. copied.log.items ≡ scene.log)) }
+    ensures copied { IfOk result (AreCopied (O.told sight.old) (O.moment sight.old) (O.moment sight.new)) }
     ensures same { O.told sight.new ≡ O.told sight.old }
+    ensures later { O.moment sight.old ≤ O.moment sight.new }
 {
     let mark = mark_of(sight, files)?;
     let bytes = read_all(alloc, sight, files, Source::Main, mark.stamp.len)?;
+    // At this moment the file is whole, and it is the one that was read, if its mark stays the same.
+    check_journal(sight)?;
     let log = read_log(alloc, sight, files, &mark)?;
     Ok(Copied { bytes, log })
 }
@@ -195,10 +249,10 @@ fn read_present<O: Sight>(
     sight: &mut O,
     files: &O::Files,
 ) -> Result<Copied, LookFault>
-    ensures bytes { IfOk result (λ copied. IfSome (O.told sight.old) (λ scene. copied.bytes.items ≡ scene.bytes)) }
-    ensures log { IfOk result (λ copied. IfSome (O.told sight.old) (λ scene. copied.log.items ≡ scene.log)) }
-    ensures present { OnOk result (IsPresent (O.told sight.old)) }
+    ensures copied { IfOk result (AreCopied (O.told sight.old) (O.moment sight.old) (O.moment sight.new)) }
+    ensures present { IfOk result (λ copied. HasFile copied.bytes.items copied.log.items) }
     ensures same { O.told sight.new ≡ O.told sight.old }
+    ensures later { O.moment sight.old ≤ O.moment sight.new }
 {
     let copied = read_both(alloc, sight, files)?;
     check_present(&copied)?;
@@ -207,27 +261,24 @@ fn read_present<O: Sight>(
 
 /// Reads both files, unless another program writes to them or a journal lies beside them.
 fn read_once<O: Sight>(alloc: Global, sight: &mut O) -> Result<Copied, LookFault>
-    ensures bytes { IfOk result (λ copied. IfSome (O.told sight.old) (λ scene. copied.bytes.items ≡ scene.bytes)) }
-    ensures log { IfOk result (λ copied. IfSome (O.told sight.old) (λ scene. copied.log.items ≡ scene.log)) }
-    ensures settled { OnOk result (IsSettled (O.told sight.old)) }
-    ensures present { OnOk result (IsPresent (O.told sight.old)) }
+    ensures copied { IfOk result (AreCopied (O.told sight.old) (O.moment sight.old) (O.moment sight.new)) }
+    ensures present { IfOk result (λ copied. HasFile copied.bytes.items copied.log.items) }
     ensures same { O.told sight.new ≡ O.told sight.old }
+    ensures later { O.moment sight.old ≤ O.moment sight.new }
 {
     let files = sight.open()?;
+    // Nothing need be read while a journal is there.
     check_journal(sight)?;
     let copied = read_present(alloc, sight, &files)?;
-    // Another program may have begun to write in the meantime.
-    check_journal(sight)?;
     Ok(copied)
 }
 
 /// Reads both files. Waits while another program writes to them, but not longer than for 100 moments.
 fn read_settled<O: Sight>(alloc: Global, sight: &mut O) -> Result<Copied, LookFault>
-    ensures bytes { IfOk result (λ copied. IfSome (O.told sight.old) (λ scene. copied.bytes.items ≡ scene.bytes)) }
-    ensures log { IfOk result (λ copied. IfSome (O.told sight.old) (λ scene. copied.log.items ≡ scene.log)) }
-    ensures settled { OnOk result (IsSettled (O.told sight.old)) }
-    ensures present { OnOk result (IsPresent (O.told sight.old)) }
+    ensures copied { IfOk result (AreCopied (O.told sight.old) (O.moment sight.old) (O.moment sight.new)) }
+    ensures present { IfOk result (λ copied. HasFile copied.bytes.items copied.log.items) }
     ensures same { O.told sight.new ≡ O.told sight.old }
+    ensures later { O.moment sight.old ≤ O.moment sight.new }
 {
     for _ in 0..TRIES {
         match read_once(alloc, sight) {
@@ -307,9 +358,8 @@ pub fn look<O: Sight>(
     sight: &mut O,
 ) -> Result<Connection<FileStore<Memory>>, LookFault>
     ensures same { O.told sight.new ≡ O.told sight.old }
-    ensures settled { OnOk result (IsSettled (O.told sight.old)) }
-    ensures present { OnOk result (IsPresent (O.told sight.old)) }
-    ensures shows { IfOk result (λ conn. HasCleanDisk (file_state conn) → ShowsFiles (O.told sight.old) (file_state conn)) }
+    ensures later { O.moment sight.old ≤ O.moment sight.new }
+    ensures shows { IfOk result (λ conn. ShowsFiles (O.told sight.old) (O.moment sight.old) (O.moment sight.new) (file_state conn)) }
     ensures opened { IfOk result (λ conn. HasCleanDisk (file_state conn) → IsOpened conn) }
     ensures fresh { IfOk result IsNew }
 {

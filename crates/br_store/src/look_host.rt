@@ -3,8 +3,9 @@
 ghost use Rattle.std.specs.Prelude.{◌≡◌, ◌≤◌, length, IfOk};
 
 use crate::look_fault::LookFault;
-use crate::look_sight::{FileTime, Sight, Stamp};
+use crate::look_sight::Sight;
 use crate::look_source::Source;
+use crate::look_stamp::{FileTime, Stamp};
 use std::fs::{self, File, Metadata};
 use std::io::{self, ErrorKind, Read};
 use std::os::unix::fs::{FileExt, MetadataExt};
@@ -143,6 +144,8 @@ impl Sight for HostSight<'_> {
 
     ghost told = { λ _. None };
 
+    ghost moment = { λ _. 0 };
+
     fn open(&mut self) -> Result<SystemFiles, LookFault> {
         let (alloc, path) = (self.rt.alloc(), self.path.as_str());
         let Some(file) = open_plain(self.rt, path)? else {
@@ -179,6 +182,14 @@ impl Sight for HostSight<'_> {
                 nanos: found.ctime_nsec(),
             },
         })
+    }
+
+    fn read_header(&mut self, files: &SystemFiles, buf: &mut [u8]) -> Result<usize, LookFault> {
+        match &files.log {
+            None => Ok(0),
+            // So few bytes at the beginning of a file are read at once.
+            Some(log) => Ok(log.read_at(buf, 0)?),
+        }
     }
 
     fn log_len(&mut self, files: &SystemFiles) -> Result<u64, LookFault> {

@@ -1,8 +1,11 @@
-ghost use Rattle.std.specs.Prelude.{◌≡◌, ◌≤◌, length, take, drop};
+ghost use Rattle.std.specs.Prelude.{◌≡◌, ◌≤◌, length, min, take, drop};
+ghost use Rattle.br_store.specs.Moments.{StillIsKept};
+ghost use Rattle.br_store.specs.Scene.{mem_stamp};
 
 use crate::look_fault::LookFault;
-use crate::look_sight::{FileTime, Sight, Stamp};
+use crate::look_sight::Sight;
 use crate::look_source::Source;
+use crate::look_stamp::{FileTime, Stamp};
 
 /// A file and its log in memory to be looked at, for tests. Another program may write to them for some
 /// moments.
@@ -61,6 +64,13 @@ impl MemSight {
     }
 }
 
+/// States that files in memory, which nobody changes, show their changes. So what `look` says of files
+/// that do holds of them.
+#[tactic(auto, using(crate::proofs::LookMoments::still_is_kept_lem))]
+pub fn files_in_memory_are_kept()
+    ensures { StillIsKept }
+{}
+
 /// Copies bytes from a place on into the beginning of the buffer, at most `at_most`. Returns
 /// their number.
 fn copy_part(bytes: &[u8], buf: &mut [u8], at: usize, at_most: usize) -> usize
@@ -76,18 +86,50 @@ fn copy_part(bytes: &[u8], buf: &mut [u8], at: usize, at_most: usize) -> usize
     n
 }
 
-/// The time of all changes of a file in memory.
-const BEGINNING: FileTime = FileTime {
-    seconds: 0,
-    nanos: 0,
-};
+/// Copies the first bytes into the buffer, as many as it holds. Returns their number.
+fn copy_front(bytes: &[u8], buf: &mut [u8]) -> usize
+    ensures count { result ≡ min (length bytes.now) (length buf.new) }
+    ensures room { length buf.new ≡ length buf.old }
+    ensures part { take result buf.new ≡ take result bytes.now }
+{
+    let n = bytes.len().min(buf.len());
+    buf[..n].copy_from_slice(&bytes[..n]);
+    n
+}
+
+/// Returns the stamp of a file in memory, which has one time of all changes.
+#[tactic(auto, unfolding(crate::specs::Scene::mem_stamp))]
+fn stamp_of(len: u64) -> Stamp
+    ensures stamp { result ≡ mem_stamp len }
+    ensures len { result.len ≡ len }
+{
+    let beginning = FileTime {
+        seconds: 0,
+        nanos: 0,
+    };
+    Stamp {
+        len,
+        device: 0,
+        inode: 0,
+        written: beginning,
+        changed: beginning,
+    }
+}
 
 impl Sight for MemSight {
-    ghost use Rattle.std.specs.Prelude.{Some};
+    ghost use Rattle.std.specs.Prelude.{Some, length};
+    ghost use Rattle.br_store.specs.Scene.{mem_stamp};
 
     type Files = ();
 
-    ghost told = { λ s. Some (record { bytes = s.bytes.items; log = s.log.items; has_journal = s.has_journal }) };
+    ghost told = { λ s. Some (λ _. record {
+      stamp = mem_stamp (length s.bytes.items);
+      bytes = s.bytes.items;
+      log = s.log.items;
+      has_journal = s.has_journal;
+    }) };
+
+    ghost moment = { λ _. 0 };
 
     fn open(&mut self) -> Result<(), LookFault> {
         if self.busy > self.waited {
@@ -101,13 +143,11 @@ impl Sight for MemSight {
     }
 
     fn stamp(&mut self, _files: &()) -> Result<Stamp, LookFault> {
-        Ok(Stamp {
-            len: self.bytes.len() as u64,
-            device: 0,
-            inode: 0,
-            written: BEGINNING,
-            changed: BEGINNING,
-        })
+        Ok(stamp_of(self.bytes.len() as u64))
+    }
+
+    fn read_header(&mut self, _files: &(), buf: &mut [u8]) -> Result<usize, LookFault> {
+        Ok(copy_front(&self.log, buf))
     }
 
     fn log_len(&mut self, _files: &()) -> Result<u64, LookFault> {

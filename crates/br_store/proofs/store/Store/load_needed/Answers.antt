@@ -4,9 +4,8 @@ use Rattle.sqlite.specs.Effect.{Database}
 use Rattle.sqlite.specs.State.{HasCleanDisk}
 use Rattle.sqlite.specs.Held.{state}
 use Rattle.br_model.specs.Answer.{Answers}
-use Rattle.br_model.specs.Job.{JobRows}
 use Rattle.br_catalog_rows.specs.Fault.{cause}
-use Rattle.br_catalog_rows.specs.Load.{read_history, read_needed, with_files_of}
+use Rattle.br_catalog_rows.specs.Load.{read_history, with_files_of}
 use Rattle.br_store.specs.Held.{rows_in, rows_of}
 use Rattle.br_store.proofs.Appends.{survives_both}
 use Rattle.br_store.proofs.NeededFiles.{files_after, jobs_refused}
