@@ -1,4 +1,4 @@
-ghost use Rattle.std.specs.Prelude.{◌≡◌, ◌+◌, ◌^◌, ◌<◌, OnOk};
+ghost use Rattle.std.specs.Prelude.{◌≡◌, ◌+◌, ◌^◌, ◌<◌, true, IfOk, OnOk};
 
 use crate::script_fault::ScriptFault;
 use br_engine::Turns;
@@ -18,10 +18,12 @@ pub(crate) enum LineReading {
 
 impl LineReading {
     /// Returns the result for a line that was read in part or whole.
-    fn begun(self) -> LineReading {
+    fn begun(self) -> LineReading
+        ensures { result ≡ LineReading.End → ⊥ }
+    {
         match self {
-            LineReading::End => LineReading::Line,
-            _ => self,
+            LineReading::Line | LineReading::End => LineReading::Line,
+            LineReading::NoMemory => LineReading::NoMemory,
         }
     }
 }
@@ -43,6 +45,8 @@ pub(crate) struct InputLines<R> {
     reader: R,
     turns: Turns,
     number: u64,
+    /// Whether the reader has ended.
+    has_ended: bool,
 }
 
 /// Appends bytes to a line, up to `most` bytes in all. Returns false if memory ran out.
@@ -57,6 +61,7 @@ impl<R: BufRead> InputLines<R> {
             reader,
             turns: Turns::new(),
             number: 0,
+            has_ended: false,
         }
     }
 
@@ -96,7 +101,8 @@ impl<R: BufRead> InputLines<R> {
         Ok((part, is_kept))
     }
 
-    /// Reads the next line into `line`, without its LF. Keeps at most `most` bytes of it.
+    /// Reads the next line into `line`, without its LF. Keeps at most `most` bytes of it. There is no
+    /// line only if the reader has ended.
     pub(crate) fn read(
         &mut self,
         line: &mut Vec<u8>,
@@ -104,6 +110,7 @@ impl<R: BufRead> InputLines<R> {
     ) -> Result<LineReading, ScriptFault>
         ensures turns { OnOk result (self.old.turns < self.new.turns) }
         ensures few { OnOk result (self.old.turns < 2 ^ 40) }
+        ensures ended { IfOk result (λ reading. reading ≡ LineReading.End → self.new.has_ended ≡ true) }
     {
         line.clear();
         let (mut most, mut reading) = (most, LineReading::End);
@@ -116,14 +123,19 @@ impl<R: BufRead> InputLines<R> {
                 LinePart::Nothing => {}
                 LinePart::More => reading = reading.begun(),
                 LinePart::LineEnd => return Ok(self.counted(reading.begun())),
-                LinePart::InputEnd => return Ok(self.counted(reading)),
+                LinePart::InputEnd => {
+                    self.has_ended = true;
+                    return Ok(self.counted(reading));
+                }
             }
         }
     }
 
     /// Counts the line that was read, if there was one.
     fn counted(&mut self, reading: LineReading) -> LineReading
-        ensures { self.new.turns ≡ self.old.turns }
+        ensures turns { self.new.turns ≡ self.old.turns }
+        ensures ended { self.new.has_ended ≡ self.old.has_ended }
+        ensures same { result ≡ reading }
     {
         if reading != LineReading::End {
             self.number = self.number.saturating_add(1);

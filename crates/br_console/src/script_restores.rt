@@ -1,5 +1,5 @@
 //! The lines of a script that restore.
-ghost use Rattle.std.specs.Prelude.{◌≡◌, ◌≤◌, ◌++◌, IfSome, MatchOption, OnOk, Some};
+ghost use Rattle.std.specs.Prelude.{◌≡◌, ◌≤◌, ◌++◌, true, IfOk, IfSome, MatchOption, OnOk, Some};
 ghost use Rattle.br_console.specs.ScriptAnswering.{refusal_at};
 ghost use Rattle.br_console.specs.ScriptRestoring.{Converses, ConversesIn, ConversesOver, FinishesDialogueBy, IsUnchosen, RestoresBy};
 ghost use Rattle.br_console.specs.ScriptObeying.{KeepsBootstrap};
@@ -40,7 +40,8 @@ enum Dialogue {
 
 /// Runs the dialogue of these lines, and writes what comes before drives are used.
 fn hold<W: Write>(alloc: Global, asked: &JobSelection<'_>, text: &[u8], writer: &mut W) -> Dialogue
-    ensures { Converses (W.contents writer.old) (W.contents writer.new) asked.now.history asked.now.request result }
+    ensures over { Converses (W.contents writer.old) (W.contents writer.new) asked.now.history asked.now.request result }
+    ensures held { result ≡ Dialogue.Unended → ⊥ }
 {
     let mut reader = text;
     match prepare(alloc, asked, &mut reader, writer) {
@@ -69,6 +70,7 @@ fn converse_over<R: BufRead, W: Write>(
 ) -> Result<Dialogue, ScriptFault>
     ensures turns { OnOk result (lines.old.turns ≤ lines.new.turns) }
     ensures over { ConversesOver (W.contents writer.old) (W.contents writer.new) asked.now.history asked.now.request result }
+    ensures unended { IfOk result (λ dialogue. dialogue ≡ Dialogue.Unended → lines.new.has_ended ≡ true) }
 {
     if let Some(number) = refusal_of(alloc, asked) {
         return Ok(Dialogue::Refused(number));
@@ -91,6 +93,7 @@ fn converse_at<R: BufRead, W: Write>(
     ensures turns { OnOk result (lines.old.turns ≤ lines.new.turns) }
     ensures over { ConversesOver (W.contents writer.old) (W.contents writer.new)
         (snapshot.now.opening ++ snapshot.now.list) request.now result }
+    ensures unended { IfOk result (λ dialogue. dialogue ≡ Dialogue.Unended → lines.new.has_ended ≡ true) }
 {
     let asked = JobSelection::new(alloc, snapshot.history(), request);
     converse_over(alloc, &asked, lines, writer)

@@ -5,6 +5,7 @@ ghost use Rattle.br_console.specs.ScriptAnswering.{refusal_at};
 ghost use Rattle.br_console.specs.ScriptKeeper.{IsOwn, SeesMore};
 ghost use Rattle.br_console.specs.ScriptEnding.{RefusesBy};
 ghost use Rattle.br_console.specs.ScriptFault.{EndlessAfterAll};
+ghost use Rattle.br_console.specs.ScriptJobs.{GivesUp};
 ghost use Rattle.br_console.specs.ScriptLine.{drives_after, drives_by, line_said, said};
 ghost use Rattle.br_console.specs.ScriptObeying.{AppendsBy, CarriesOut, Obeys, TakesOutside, number_of};
 ghost use Rattle.br_console.specs.declared.script.ScriptEnd.TheVariants.{Refused};
@@ -143,6 +144,32 @@ impl<C: JobStore, V: DrivenStore> Script<C, V> {
         }
     }
 
+    /// Carries out a line that was read. One for which memory ran out is refused, and the job that it
+    /// is in is given up.
+    fn take_reading<T: Threads + Wait + Sync, R: BufRead, W: Write>(
+        &mut self,
+        rt: &T,
+        reading: LineReading,
+        line: &[u8],
+        lines: &mut InputLines<R>,
+        writer: &mut W,
+    ) -> Result<(), ScriptFault>
+        requires own { IsOwn self.old.desk.session self.old.desk.keeper }
+        ensures own { IsOwn self.new.desk.session self.new.desk.keeper }
+        ensures sees { SeesMore self.old.desk.session self.new.desk.session }
+        ensures turns { OnOk result (lines.old.turns ≤ lines.new.turns) }
+        ensures few { DoesFew C.inserts C.refuses V.holds V.failures self.new.desk.session self.old.desk.keeper self.new.desk.keeper }
+        ensures lost { reading ≡ LineReading.NoMemory → GivesUp self.old.draft self.new.draft }
+        ensures carries { reading ≡ LineReading.Line → CarriesOut C.inserts C.refuses V.holds V.failures W.contents
+            self.old self.new writer.old writer.new lines.old.number result line.now }
+    {
+        match reading {
+            LineReading::Line => self.carry_out(rt, line, lines, writer),
+            LineReading::NoMemory => Ok(self.lose_line(writer)?),
+            LineReading::End => Ok(()),
+        }
+    }
+
     /// Carries out all lines of a script.
     #[tactic(auto, using(crate::proofs::DeskLaws::does_more))]
     fn run<T: Threads + Wait + Sync, R: BufRead, W: Write>(
@@ -159,11 +186,11 @@ impl<C: JobStore, V: DrivenStore> Script<C, V> {
         let mut lines = InputLines::new(reader);
         let mut line = Vec::new(self.alloc);
         loop {
-            match lines.read(&mut line, MAX_LINE + 1)? {
-                LineReading::Line => self.carry_out(rt, &line, &mut lines, writer)?,
-                LineReading::NoMemory => self.lose_line(writer)?,
-                LineReading::End => return Ok(self.end),
+            let reading = lines.read(&mut line, MAX_LINE + 1)?;
+            if reading == LineReading::End {
+                return Ok(self.end);
             }
+            self.take_reading(rt, reading, &line, &mut lines, writer)?;
         }
     }
 }

@@ -1,5 +1,5 @@
 //! Texts of several lines in a script: bootstraps, and dialogues with the console.
-ghost use Rattle.std.specs.Prelude.{◌≤◌, OnOk};
+ghost use Rattle.std.specs.Prelude.{◌≡◌, ◌≤◌, true, IfOk, OnOk};
 
 use crate::script_fault::ScriptFault;
 use crate::script_input::{InputLines, LineReading};
@@ -56,7 +56,9 @@ fn push_line(text: &mut Vec<u8>, line: &[u8], reading: LineReading) -> bool {
 }
 
 /// Returns the text, unless memory ran out for it.
-fn text_of(text: Vec<u8>, has_memory: bool) -> Text {
+fn text_of(text: Vec<u8>, has_memory: bool) -> Text
+    ensures { result ≡ Text.Unended → ⊥ }
+{
     if has_memory {
         Text::Whole(text)
     } else {
@@ -73,7 +75,8 @@ pub(crate) fn read_text<R: BufRead>(
     lines: &mut InputLines<R>,
     kind: TextKind,
 ) -> Result<Text, ScriptFault>
-    ensures { OnOk result (lines.old.turns ≤ lines.new.turns) }
+    ensures turns { OnOk result (lines.old.turns ≤ lines.new.turns) }
+    ensures unended { IfOk result (λ text. text ≡ Text.Unended → lines.new.has_ended ≡ true) }
 {
     let Ok(mut line) = Vec::with_capacity(alloc, MAX_LINE) else {
         return Ok(Text::NoMemory);
