@@ -23,6 +23,7 @@ use Rattle.br_catalog_migrate.specs.Old.{IsMigrated, old_rows_in, read_old}
 use Rattle.br_catalog_migrate.specs.OldRead.{AreSorted, FormJobs, IsOldIn}
 use Rattle.br_catalog_migrate.specs.Renewed.{IsAltered, ListsNoOther}
 use Rattle.br_catalog_migrate.specs.Sound.{AreMovedRows, moved_trees}
+use Rattle.br_catalog_migrate.specs.declared.old_version.OldSchema.{OldSchema}
 
 -- the rows of files of version 2
 abbrev pub moved_files : OldLayout → Trees → List Row
@@ -44,6 +45,10 @@ pub record IsMovedFrom (schema : Schema) (l : OldLayout) (id : ℤ) (old new : T
   pub shares : ListsNoOther l.file (old catalog_tree) (new catalog_tree)
   pub moved : IsMovedSchema after schema l
   pub rows : AreMovedRows (old l.file) (moved_files l old)
+
+-- the tables of version 2 are listed, as a migration makes them
+abbrev pub ListsMoved : Trees → OldSchema → Type 0
+ListsMoved trees old = (after : Schema) × Lists (trees catalog_tree) after × IsMovedSchema after old.schema old.layout
 
 -- the catalogue of version 2 was written, and nothing was committed
 pub record IsWritten (schema : Schema) (l : OldLayout) (id : ℤ) (old new : View) : Type 0 where

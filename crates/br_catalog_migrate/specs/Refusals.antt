@@ -74,6 +74,10 @@ CanShowJob clients filesets row = CanName clients (column row job_client) × Can
 abbrev pub CanShowSpan : NameTable → Row → Type 0
 CanShowSpan media row = CanName media (column row span_media)
 
+-- the names of each row of Job are there
+abbrev pub CanShowJobs : NameTable → NameTable → List Row → Type 0
+CanShowJobs clients filesets rows = AllByRecursion (CanShowJob clients filesets) rows
+
 -- ---- files
 
 -- the numbers of a row of File and of its path and its name are integers
@@ -134,6 +138,10 @@ pub record CanTakeAll (jobs : List JobRow) (paths names : NameTable) (rows : Lis
   pub linked : AllByRecursion IsFileLinked rows
   pub belong : list_all (load.has_job jobs) (map (shown_row ps ns) rows) ≡ true
   pub files : (id : ℕ) → list_any (λ (j : JobRow). j.id == id) jobs ≡ true → AreFilesFor (map (shown_row ps ns) rows) id
+
+-- a history with the rows of these jobs can have the files of these rows
+abbrev pub CanTakeFiles : List JobRows → NameTable → NameTable → List Row → Type 0
+CanTakeFiles jobs paths names rows = CanTakeAll (map (λ (j : JobRows). j.row) jobs) paths names rows
 
 -- ---- the whole
 

@@ -12,7 +12,7 @@ ghost use Rattle.std.specs.Str.{is_utf8};
 ghost use Rattle.br_catalog_migrate.specs.Claims.{CanBelong, CanMove, IsMovedAt, TakesFile};
 ghost use Rattle.br_catalog_migrate.specs.OldFiles.{AreFiles, IsOldFile, IsWholeFile, moved_row};
 ghost use Rattle.br_catalog_migrate.specs.OldNames.{AreNames};
-ghost use Rattle.br_catalog_migrate.specs.Refusals.{CanTake, CanTakeAll, IsOther, IsTypedFile};
+ghost use Rattle.br_catalog_migrate.specs.Refusals.{CanTake, CanTakeFiles, IsOther, IsTypedFile};
 ghost use Rattle.br_catalog_migrate.specs.Sound.{IsMovedRow};
 ghost use Rattle.br_catalog_migrate.specs.MigrationSteps.{CommitsNothing, OnCleanStore, Reads};
 ghost use Rattle.br_catalog_migrate.specs.WholeMigration.{AreWhole};
@@ -276,7 +276,7 @@ pub(crate) fn read_files<S: Store>(
     ensures whole { OnCleanStore S.Store store.old store.new (λ old new. OnOk result
         (CanBelong jobs.now paths.now names.now (old.trees tree))) }
     ensures other { OnCleanStore S.Store store.old store.new (λ old new.
-        CanTakeAll (map (λ (j : Job). j.row) jobs.now) paths.now names.now (old.trees tree) → IfErr result IsOther) }
+        CanTakeFiles jobs.now paths.now names.now (old.trees tree) → IfErr result IsOther) }
     ensures reads { OnCleanStore S.Store store.old store.new (λ old new. OnOk result (Reads old new)) }
     ensures kept { CommitsNothing S.Store store.old store.new }
 {

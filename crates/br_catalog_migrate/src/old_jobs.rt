@@ -8,7 +8,7 @@ ghost use Rattle.sqlite_trees.specs.View.{IsClean};
 ghost use Rattle.br_store.specs.Held.{name_at, span_shown};
 ghost use Rattle.br_catalog_migrate.specs.Claims.{ShowJobs, ShowSpans, ShowsJob};
 ghost use Rattle.br_catalog_migrate.specs.OldNames.{AreNames};
-ghost use Rattle.br_catalog_migrate.specs.Refusals.{CanName, CanShowJob, CanShowSpan, IsOther};
+ghost use Rattle.br_catalog_migrate.specs.Refusals.{CanName, CanShowJob, CanShowJobs, CanShowSpan, IsOther};
 ghost use Rattle.br_catalog_migrate.specs.MigrationSteps.{CommitsNothing, OnCleanStore, Reads};
 
 use crate::old_names::NameTable;
@@ -101,7 +101,7 @@ pub(crate) fn read_jobs<S: Store>(
     ensures jobs { OnCleanStore S.Store store.old store.new (λ old new. IfOk result
         (λ jobs. ShowJobs clients.now filesets.now (old.trees tree) jobs.items)) }
     ensures other { OnCleanStore S.Store store.old store.new (λ old new.
-        AllByRecursion (CanShowJob clients.now filesets.now) (old.trees tree) → IfErr result IsOther) }
+        CanShowJobs clients.now filesets.now (old.trees tree) → IfErr result IsOther) }
     ensures reads { OnCleanStore S.Store store.old store.new (λ old new. OnOk result (Reads old new)) }
     ensures kept { CommitsNothing S.Store store.old store.new }
 {

@@ -6,8 +6,7 @@ ghost use Rattle.sqlite_trees.specs.Objects.{catalog_tree};
 ghost use Rattle.sqlite_trees.specs.View.{IsClean};
 ghost use Rattle.sqlite_trees.specs.declared.store.Shape.TheVariants.{Table};
 ghost use Rattle.sqlite_catalog.specs.Listing.{Lists};
-ghost use Rattle.br_catalog_tables.specs.OldSchemas.{IsMovedSchema};
-ghost use Rattle.br_catalog_migrate.specs.Moved.{version_rows};
+ghost use Rattle.br_catalog_migrate.specs.Moved.{ListsMoved, version_rows};
 ghost use Rattle.br_catalog_migrate.specs.OldRead.{IsOldIn};
 ghost use Rattle.br_catalog_migrate.specs.Refusals.{IsOldHistory, IsOther};
 ghost use Rattle.br_catalog_migrate.specs.MigrationSteps.{AreTables, CommitsNothing, OnCleanStore, Reads};
@@ -176,8 +175,8 @@ pub(crate) fn check_new<S: Alter>(
     old: &OldSchema,
 ) -> Result<(), StoreFault>
     requires { IsClean (S.Store.view store.now) → (S.Store.view store.now).is_broken ≡ false }
-    ensures lists { IsClean (S.Store.view store.now) → OnOk result ((after : _)
-        × Lists ((S.Store.view store.now).trees catalog_tree) after × IsMovedSchema after old.now.schema old.now.layout) }
+    ensures lists { IsClean (S.Store.view store.now) → OnOk result
+        (ListsMoved (S.Store.view store.now).trees old.now) }
     ensures other { IfErr result IsOther }
 {
     match load(store, alloc)? {

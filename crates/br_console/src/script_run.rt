@@ -135,7 +135,7 @@ impl<C: JobStore, V: DrivenStore> Script<C, V> {
         ensures sees { SeesMore self.old.desk.session self.new.desk.session }
         ensures turns { OnOk result (lines.old.turns ≤ lines.new.turns) }
         ensures few { DoesFew C.inserts C.refuses V.holds V.failures self.new.desk.session self.old.desk.keeper self.new.desk.keeper }
-        ensures carries { CarriesOut C.inserts C.refuses V.holds V.failures W.contents self.old self.new writer.old writer.new
+        ensures carries { CarriesOut C.JobStore V.VolumeStore W.Write self.old self.new writer.old writer.new
             lines.old.number result line.now }
     {
         match self.draft.take() {
@@ -160,8 +160,8 @@ impl<C: JobStore, V: DrivenStore> Script<C, V> {
         ensures turns { OnOk result (lines.old.turns ≤ lines.new.turns) }
         ensures few { DoesFew C.inserts C.refuses V.holds V.failures self.new.desk.session self.old.desk.keeper self.new.desk.keeper }
         ensures lost { reading ≡ LineReading.NoMemory → GivesUp self.old.draft self.new.draft }
-        ensures carries { reading ≡ LineReading.Line → CarriesOut C.inserts C.refuses V.holds V.failures W.contents
-            self.old self.new writer.old writer.new lines.old.number result line.now }
+        ensures carries { reading ≡ LineReading.Line → CarriesOut C.JobStore V.VolumeStore W.Write self.old self.new
+            writer.old writer.new lines.old.number result line.now }
     {
         match reading {
             LineReading::Line => self.carry_out(rt, line, lines, writer),
