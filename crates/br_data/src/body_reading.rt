@@ -1,5 +1,5 @@
 //! Reading the bytes of a file part by part: they are digested, and not kept.
-ghost use Rattle.std.specs.Prelude.{◌≡◌, ◌++◌, [], length, OnOk};
+ghost use Rattle.std.specs.Prelude.{◌≡◌, ◌++◌, [], length, IfOk, OnOk};
 ghost use Rattle.br_data.specs.Content.{content_bytes};
 
 use crate::file_bytes::{Content, FileBytes};
@@ -66,6 +66,21 @@ impl Reading {
         self.len = len;
         self.read = ReadBytes::and(&self.read, bytes);
         Ok(())
+    }
+
+    /// Returns a copy, to which other bytes can be added.
+    ///
+    /// # Errors
+    ///
+    /// `AllocError` if memory runs out.
+    pub fn copy(&self) -> Result<Reading, AllocError>
+        ensures { IfOk result (λ reading. reading ≡ self.now) }
+    {
+        Ok(Reading {
+            hasher: self.hasher.clone()?,
+            len: self.len,
+            read: self.read.copy(),
+        })
     }
 
     /// Returns the bytes with their digest. They are not in memory.

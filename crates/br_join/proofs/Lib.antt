@@ -3,6 +3,8 @@ pub mod PlainLaws
 mod RoomLaws
 pub mod TakingLaws
 pub mod FilesLaws
+mod FirstLaws
+mod FrontLaws
 pub mod PieceLaws
 pub mod ReadyLaws
 pub mod StreamedLaws

@@ -1,6 +1,7 @@
 pub mod Code
 pub mod Data
 pub mod Fault
+pub mod Front
 pub mod Joining
 pub mod Outcome
 pub mod Pieces

@@ -2,8 +2,10 @@ ghost use Rattle.std.specs.Prelude.{◌≡◌, ◌+◌, ◌≤◌, ◌++◌, vec
 ghost use Rattle.std.specs.FinMap.{empty};
 ghost use Rattle.br_model.specs.Meaning.{hits_of, with_hits};
 ghost use Rattle.br_join.specs.Room.{data_in, filled};
+ghost use Rattle.br_join.specs.Front.{AreFronts, AreOf};
 ghost use Rattle.br_records.specs.Runs.{AreListed};
 
+use crate::fronts::Fronts;
 use crate::room::{Room, let_go_if};
 use br_match::Hit;
 use br_records::settle;
@@ -20,38 +22,65 @@ const FIRST_LEN: usize = 4096;
 /// memory of a tree. Hits that come again, as after a drive failed, make it longer. So it is also
 /// sorted each time that it has become twice as long as after the last sort, and of hits at one
 /// place the first is kept.
+///
+/// From the first data on for which there is no room, no data are held. The data of a hit are then
+/// digested as it is taken, if it is the next one of its file. That costs two look-ups of its file
+/// and its digest, and no walk over the hits that were taken before.
 #[derive(Drop)]
 pub(crate) struct Held {
     hits: Vec<Hit>,
     /// The number of hits from which the list is sorted before more are taken.
     full: usize,
+    /// The fronts of the files of the hits, once data are let go.
+    fronts: Fronts,
+}
+
+/// Hits in order of file and place, and fronts of their files.
+#[derive(Drop)]
+pub(crate) struct Listed {
+    pub(crate) hits: Vec<Hit>,
+    pub(crate) fronts: Fronts,
 }
 
 impl Model for Held {
     ghost use Rattle.br_model.specs.Meaning as model;
     ghost use Rattle.br_model.specs.Meaning.{hits_of};
     ghost use Rattle.br_join.specs.Code.{coded_hits};
+    ghost use Rattle.br_join.specs.Front.{AreOf};
 
     ghost Value = { model.Hits };
 
     ghost coded = { coded_hits };
 
     ghost view = { λ h. hits_of h.hits.items };
+
+    ghost invariant = { λ h. AreOf (hits_of h.hits.items) h.fronts };
 }
 
 /// Reserves room for the data of hits that come. If there is too little, their data are let go, and
-/// those of the hits that were taken before: a restore that does not hold all data reads them again.
-fn make_room(room: &mut Room, taken: &mut Vec<Hit>, hits: &mut Vec<Hit>)
+/// those of the hits that were taken before. Data that were not digested before they were let go
+/// are read again.
+fn make_room(
+    room: &mut Room,
+    taken: &mut Vec<Hit>,
+    hits: &mut Vec<Hit>,
+    fronts: &mut Fronts,
+    floor: u32,
+)
     ensures room { room.new ≡ filled room.old (data_in hits.old.items) }
     ensures taken { taken.new.items ≡ taken.old.items }
     ensures taken_len { vec_len taken.new ≡ vec_len taken.old }
     ensures capacity { vec_capacity taken.new ≡ vec_capacity taken.old }
     ensures hits { hits.new.items ≡ hits.old.items }
     ensures hits_len { vec_len hits.new ≡ vec_len hits.old }
+    ensures fronts { AreOf (hits_of taken.old.items) fronts.old → AreOf (with_hits (hits_of taken.old.items) hits.old.items) fronts.new }
 {
     let held = room.holds_all();
     room.take(hits);
     let holds = room.holds_all();
+    let alloc = *taken.allocator();
+    fronts.begin_if(held != holds, alloc, taken, floor);
+    fronts.note(hits, floor);
     let_go_if(taken, held != holds);
     let_go_if(hits, !holds);
 }
@@ -72,6 +101,7 @@ impl Held {
         Held {
             hits: Vec::new(alloc),
             full: FIRST_LEN,
+            fronts: Fronts::none(),
         }
     }
 
@@ -88,8 +118,13 @@ impl Held {
     }
 
     /// Takes hits, and lets data go if there is no room for them. If memory runs out, nothing
-    /// changes, and the hits are returned.
-    pub(crate) fn take(&mut self, room: &mut Room, mut hits: Vec<Hit>) -> Result<(), Vec<Hit>>
+    /// changes, and the hits are returned. All hits of groups below `floor` were taken before.
+    pub(crate) fn take(
+        &mut self,
+        room: &mut Room,
+        mut hits: Vec<Hit>,
+        floor: u32,
+    ) -> Result<(), Vec<Hit>>
         ensures ok { OnOk result (self.new ≡ with_hits self.old hits.items) }
         ensures room { OnOk result (room.new ≡ filled room.old (data_in hits.items)) }
         ensures err { OnErr result (self.new ≡ self.old) }
@@ -100,7 +135,7 @@ impl Held {
         if self.hits.try_reserve(hits.len()).is_err() {
             return Err(hits);
         }
-        make_room(room, &mut self.hits, &mut hits);
+        make_room(room, &mut self.hits, &mut hits, &mut self.fronts, floor);
         append(&mut self.hits, hits);
         Ok(())
     }
@@ -115,6 +150,7 @@ impl Held {
         settle(&mut self.hits)?;
         let alloc = *self.hits.allocator();
         self.full = FIRST_LEN;
+        self.fronts = Fronts::none();
         Ok(mem::replace(&mut self.hits, Vec::new(alloc)))
     }
 
@@ -122,6 +158,26 @@ impl Held {
     pub(crate) fn put_back(&mut self, hits: Vec<Hit>)
         ensures { self.new ≡ hits_of hits.items }
     {
+        self.fronts = Fronts::none();
         self.hits = hits;
+    }
+
+    /// Returns all hits, in order of file and place, and the fronts of their files.
+    ///
+    /// # Errors
+    ///
+    /// `AllocError` if memory runs out. Then the hits are lost.
+    pub(crate) fn into_listed(self) -> Result<Listed, AllocError>
+        ensures listed { IfOk result (λ r. AreListed r.hits.items) }
+        ensures same { IfOk result (λ r. hits_of r.hits.items ≡ self) }
+        ensures fronts { IfOk result (λ r. AreFronts r.fronts r.hits.items) }
+    {
+        let Held {
+            mut hits,
+            full: _full,
+            fronts,
+        } = self;
+        settle(&mut hits)?;
+        Ok(Listed { hits, fronts })
     }
 }

@@ -7,12 +7,15 @@ ghost use Rattle.br_model.specs.Meaning.{hits_of};
 ghost use Rattle.br_model.specs.Restored.{files, planned_in};
 ghost use Rattle.br_join.specs.Outcome.{restored};
 ghost use Rattle.br_join.specs.Joining.{begun, begun_within, taken, with_batch, with_closed, is_ready, emptied};
+ghost use Rattle.br_join.specs.Front.{AreFronts};
 ghost use Rattle.br_join.specs.Pieces.{as_map, opens};
 ghost use Rattle.br_records.specs.Runs.{AreListed};
 ghost use Rattle.br_join.specs.declared.fault.JoinFault.TheVariants.{StrangerPiece};
 
 use crate::fault::{JoinFault, Refused};
-use crate::held::Held;
+use crate::floor::Floor;
+use crate::fronts::Fronts;
+use crate::held::{Held, Listed};
 use crate::item::Outcome;
 use crate::room::{Room, let_all_go};
 use crate::runs::files_of;
@@ -29,9 +32,14 @@ use std::thread::Threads;
 /// list at the end.
 ///
 /// At the first data for which there is no room, all data are let go, except attributes and
-/// digests. The files are then made of data that are read again, and the memory is free for what
-/// follows. For contracts the hits stay the same: they see the bytes whether these are in memory or
-/// not, and beside them how much room is left and whether all data are held.
+/// digests. The memory is then free for what follows. From then on the plain data of a hit are
+/// digested as it is taken, if all hits of its file that are before it were digested, too: the file
+/// has a front, and its first data are not read again to be digested. Fronts begin with the first
+/// hit of a file. A hit that comes before those that are digested, or again, ends the front, and so
+/// do sparse data. The files are made of their fronts and of data that are read again.
+///
+/// For contracts the hits stay the same: they see the bytes whether these are in memory or not, and
+/// beside them how much room is left and whether all data are held.
 #[derive(Drop)]
 pub struct Joiner {
     /// The number of each piece, and whether the piece is closed.
@@ -40,6 +48,16 @@ pub struct Joiner {
     names: Option<Names>,
     hits: Held,
     room: Room,
+    floor: Floor,
+}
+
+/// What a joiner took: the hits, in order of file and place, the names of the plan, if there is one,
+/// and fronts of files of the hits.
+#[derive(Drop)]
+pub struct Joined {
+    pub hits: Vec<Hit>,
+    pub names: Option<Names>,
+    pub fronts: Fronts,
 }
 
 impl Model for Joiner {
@@ -131,6 +149,7 @@ impl Joiner {
             names,
             hits: Held::new(alloc),
             room: Room::new(bound),
+            floor: Floor::of(alloc, pieces)?,
         })
     }
 
@@ -156,13 +175,15 @@ impl Joiner {
             });
         }
         let piece = found.piece;
-        if let Err(hits) = self.hits.take(&mut self.room, found.hits) {
+        let floor = self.floor.group();
+        if let Err(hits) = self.hits.take(&mut self.room, found.hits, floor) {
             return Err(Refused {
                 value: Found { piece, hits },
                 fault: JoinFault::Memory,
             });
         }
         close(&mut self.pieces, piece);
+        self.floor.rise(&self.pieces);
         Ok(())
     }
 
@@ -205,7 +226,8 @@ impl Joiner {
         ensures err { OnErr result (self.new ≡ self.old) }
         ensures back { IfErr result (λ value. value ≡ batch) }
     {
-        match self.hits.take(&mut self.room, batch.hits) {
+        let floor = self.floor.group();
+        match self.hits.take(&mut self.room, batch.hits, floor) {
             Ok(()) => Ok(()),
             Err(hits) => Err(Batch { hits }),
         }
@@ -226,6 +248,7 @@ impl Joiner {
             return Err(JoinFault::StrangerPiece);
         }
         close(&mut self.pieces, piece);
+        self.floor.rise(&self.pieces);
         Ok(())
     }
 
@@ -261,6 +284,7 @@ impl Joiner {
         match files_of(rt, *hits.allocator(), &hits, self.names.as_ref()) {
             Ok(outcomes) => {
                 open_again(&mut self.pieces);
+                self.floor.rise(&self.pieces);
                 self.room = self.room.emptied();
                 Ok(outcomes)
             }
@@ -279,26 +303,33 @@ impl Joiner {
         self.room.holds_all()
     }
 
-    /// Returns the hits that were taken, in order of file and place, and the names of the plan, if
-    /// there is one. Their data are let go, except attributes and digests, so that there is room
-    /// for the data of one file.
+    /// Returns the hits that were taken, in order of file and place, the names of the plan, if there
+    /// is one, and fronts of files: what was made of the first hits of a file when they were taken.
+    /// The data of hits are let go, except attributes and digests, so that there is room for the
+    /// data of one file.
     ///
     /// # Errors
     ///
     /// `AllocError` if memory runs out. Then the hits are lost.
-    pub fn into_hits(self) -> Result<(Vec<Hit>, Option<Names>), AllocError>
-        ensures listed { IfOk result (λ r. AreListed r.0.items) }
-        ensures same { IfOk result (λ r. hits_of r.0.items ≡ self.hits) }
-        ensures names { IfOk result (λ r. r.1 ≡ self.names) }
+    pub fn into_hits(self) -> Result<Joined, AllocError>
+        ensures listed { IfOk result (λ r. AreListed r.hits.items) }
+        ensures same { IfOk result (λ r. hits_of r.hits.items ≡ self.hits) }
+        ensures names { IfOk result (λ r. r.names ≡ self.names) }
+        ensures fronts { IfOk result (λ r. AreFronts r.fronts r.hits.items) }
     {
         let Joiner {
             pieces: _pieces,
             names,
-            mut hits,
+            hits,
             room: _room,
+            floor: _floor,
         } = self;
-        let mut listed = hits.take_out()?;
-        let_all_go(&mut listed);
-        Ok((listed, names))
+        let Listed { mut hits, fronts } = hits.into_listed()?;
+        let_all_go(&mut hits);
+        Ok(Joined {
+            hits,
+            names,
+            fronts,
+        })
     }
 }
