@@ -2,6 +2,7 @@ mod DataLaws
 pub mod PlainLaws
 mod RoomLaws
 pub mod TakingLaws
+mod WholeLaws
 pub mod FilesLaws
 mod FirstLaws
 mod FrontLaws

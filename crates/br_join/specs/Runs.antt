@@ -6,6 +6,7 @@ use Rattle.br_model.specs.File.{Outcome}
 use Rattle.br_model.specs.Restored.{Names, Restored, files_listed, outcome_of, planned_in, under_name}
 use Rattle.br_records.specs.Records.{fragments}
 use Rattle.br_records.specs.Runs.{listed}
+use Rattle.br_join.specs.Front.{hits_for}
 
 -- an outcome under the planned path, if there is one
 abbrev pub named : Option (List ℕ) → Outcome → Outcome
@@ -27,6 +28,10 @@ pub record IsPart (all : List Hit) (r : Run) : Type 0 where
   pub before : List Hit
   pub after : List Hit
   pub joined : before ++ (r.hits ++ after) ≡ all
+
+-- the hits of the run are all that its file has among these
+abbrev pub IsWholeRun : List Hit → Run → Type 0
+IsWholeRun all r = r.hits ≡ hits_for r.key all
 
 -- the files of the hits: the planned ones if there are names, else those that were found
 abbrev pub files_of : List Hit → Option Names → List Restored

@@ -6,7 +6,7 @@ ghost use Rattle.br_model.specs.Meaning as model;
 ghost use Rattle.br_model.specs.Restored.{files_found, files_planned, planned_in};
 ghost use Rattle.br_records.specs.Runs.{AreListed, listed};
 ghost use Rattle.br_join.specs.Outcome.{restored, shown};
-ghost use Rattle.br_join.specs.Runs.{IsPart, file_of, files_of};
+ghost use Rattle.br_join.specs.Runs.{IsPart, IsWholeRun, file_of, files_of};
 ghost use Rattle.br_join.specs.Runs as run;
 
 use crate::item::Outcome;
@@ -74,6 +74,7 @@ fn found_runs<'h>(alloc: Global, hits: &'h [Hit]) -> Result<Vec<Run<'h>>, AllocE
     requires { AreListed hits.now }
     ensures files { IfOk result (λ runs. map file_of runs.items ≡ files_found (listed hits.now)) }
     ensures parts { IfOk result (λ runs. AllByRecursion (IsPart hits.now) runs.items) }
+    ensures whole { IfOk result (λ runs. AllByRecursion (IsWholeRun hits.now) runs.items) }
 {
     let mut runs = Vec::new(alloc);
     let mut rest = hits;
@@ -96,6 +97,7 @@ fn planned_runs<'h>(
     requires { AreListed hits.now }
     ensures files { IfOk result (λ runs. map file_of runs.items ≡ files_planned (listed hits.now) (planned_in names.now)) }
     ensures parts { IfOk result (λ runs. AllByRecursion (IsPart hits.now) runs.items) }
+    ensures whole { IfOk result (λ runs. AllByRecursion (IsWholeRun hits.now) runs.items) }
 {
     let mut runs = Vec::new(alloc);
     for (key, path) in names.iter() {
@@ -120,6 +122,7 @@ pub fn runs_of<'h>(
     requires { AreListed hits.now }
     ensures files { IfOk result (λ runs. map file_of runs.items ≡ files_of hits.now (option_copied names.entry)) }
     ensures parts { IfOk result (λ runs. AllByRecursion (IsPart hits.now) runs.items) }
+    ensures whole { IfOk result (λ runs. AllByRecursion (IsWholeRun hits.now) runs.items) }
 {
     match names {
         None => found_runs(alloc, hits),

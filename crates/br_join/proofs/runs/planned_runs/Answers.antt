@@ -11,12 +11,14 @@ use Rattle.br_model.proofs.ListLaws.{all_append}
 use Rattle.br_records.specs.Runs.{listed}
 use Rattle.br_records.proofs.FilesLaws.{fragments_in_run, more_files}
 use Rattle.br_join.proofs.FilesLaws.{planned_of, planned_files_are}
-use Rattle.br_join.specs.Runs.{IsPart, Run, file_of}
+use Rattle.br_join.proofs.WholeLaws.{whole_run}
+use Rattle.br_join.specs.Runs.{IsPart, IsWholeRun, Run, file_of}
 use Rattle.br_join.proofs.runs.planned_runs.Goals as goal
 
 pub loop-key-init : goal.loop-key-init
 loop-key-init c = record {
   parts = subst (AllByRecursion (IsPart c.args.hits.now)) (sym c.new-runs.ensures.items) tt;
+  whole = subst (AllByRecursion (IsWholeRun c.args.hits.now)) (sym c.new-runs.ensures.items) tt;
   files =
       λ i. map file_of (c.new-runs.ensures.items i) ++ map (planned_of (listed c.args.hits.now)) ((c.into_iter-key-iterator.ensures.into_iter_gives ∙ c.iter-key-items.ensures) i);
 }
@@ -44,6 +46,10 @@ loop-key-preserved c =
           subst (AllByRecursion (IsPart hits)) (sym pushed)
           (all_append (IsPart hits) c.loop-key.runs.items (run ∷ []) c.loop-key.invariant.parts
           (record { before = front; after = behind; joined = ap (λ (r : Run). front ++ (r.hits ++ behind)) c.new.ensures ∙ around.joined }, tt));
+      whole =
+          subst (AllByRecursion (IsWholeRun hits)) (sym pushed)
+          (all_append (IsWholeRun hits) c.loop-key.runs.items (run ∷ []) c.loop-key.invariant.whole
+          (subst (IsWholeRun hits) (sym c.new.ensures) (whole_run key hits front c.around.result.1.now behind around.joined around.before around.of_key around.after), tt));
       files =
           more_files (map file_of c.loop-key.runs.items) (map file_of c.push.new.self.items) (file_of run) (map (planned_of es) left) (map (planned_of es) rest)
           (map (planned_of es) (entries c.args.names.now)) (ap (map file_of) pushed ∙ map-append file_of c.loop-key.runs.items (run ∷ [])) c.loop-key.invariant.files next;
@@ -59,3 +65,6 @@ returns-clause-files c =
 
 pub returns-clause-parts : goal.returns-clause-parts
 returns-clause-parts c = c.loop-key.invariant.parts
+
+pub returns-clause-whole : goal.returns-clause-whole
+returns-clause-whole c = c.loop-key.invariant.whole
