@@ -88,9 +88,10 @@ whole_read stays a b had rest then left now on first second = record {
 }
 
 -- all hits of a file that was read to its end are of that file
-pub all_of_file : (m : RereadingMany) (key : FileKey) (hits : List Hit) (now : Digesting) → AllByRecursion (λ (h : Hit). h.key ≡ key) hits → IsDigested m [] hits now
+pub all_of_file : (m : RereadingMany) (key : FileKey) (had rest hits : List Hit) (now : Digesting) → had ++ rest ≡ hits → AllByRecursion (λ (h : Hit). h.key ≡ key) hits → IsDigested m had rest now
     → All (λ (h : Hit). h.key ≡ key) now.hits.items
-all_of_file m key hits now all read = all_from (λ (h : Hit). h.key ≡ key) now.hits.items (of_file key now.hits.items hits read.keys all)
+all_of_file m key had rest hits now joined all read =
+    all_from (λ (h : Hit). h.key ≡ key) now.hits.items (of_file key now.hits.items hits (read.keys ∙ ap keys_of joined) all)
 
 -- hits that were read later are as they were found, if they are given before
 pub read_later : StandingStays → (a b : RereadingMany) (hits : List Hit) (ahead : Ahead) → GoOn a b → AreRead b hits ahead → AreRead a hits ahead

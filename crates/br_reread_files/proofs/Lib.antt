@@ -1,4 +1,5 @@
 mod DigestingLaws
+mod FileHitsLaws
 mod GivenLaws
 mod PlainFileLaws
 mod RunLaws

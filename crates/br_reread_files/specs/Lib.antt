@@ -1,6 +1,7 @@
 pub mod Again
 pub mod Code
 pub mod Digesting
+pub mod FileHits
 pub mod FileParts
 pub mod Gathered
 pub mod Runs

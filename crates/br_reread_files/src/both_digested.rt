@@ -1,17 +1,20 @@
 //! Two files that are read and digested side by side. This thread reads a window of one file and
 //! then one of the other, while two other threads digest the windows that were read before.
-ghost use Rattle.std.specs.Prelude.{◌≡◌, ◌≤◌, ◌-◌, ◌++◌, [], length, Err, IfOk, OnOk};
+ghost use Rattle.std.specs.Prelude.{◌≡◌, ◌≤◌, ◌-◌, ◌++◌, length, Err, IfOk, OnOk};
 ghost use Rattle.br_data.specs.declared.reread_fault.AgainFault.TheVariants.{Changed, Failed};
 ghost use Rattle.br_join.specs.Outcome.{restored};
 ghost use Rattle.br_data.specs.ManyDrives.{GoOn, HaveFailed};
 ghost use Rattle.br_reread_files.specs.Digesting.{AreRead, IsDigested, IsRead, IsWhole, ReadsOn};
+ghost use Rattle.br_reread_files.specs.FileHits.{digested, unread};
 ghost use Rattle.br_reread_parts.specs.Given.{GivesHits};
 ghost use Rattle.br_join.specs.Runs.{file_of};
 ghost use Rattle.br_reread_parts.specs.Windows.{data_bytes};
 
 use crate::digesting::{Ahead, Digesting, digest_rest, finish, open, read_ahead, take_ahead};
+use crate::file_hits::FileHits;
+use crate::file_run::FileRun;
 use br_data::{AgainFault, OverMany, standing_stays};
-use br_join::{Outcome, Run, named};
+use br_join::{Outcome, named};
 use br_match::Hit;
 use br_reread_parts::{DIGESTED, cut_window, digest_window};
 use br_volume::Drive;
@@ -223,7 +226,8 @@ struct BothRead {
     other: Digesting,
 }
 
-/// Reads and digests two files side by side. The data of two windows of each are in memory at most.
+/// Reads and digests two files side by side. What is digested of them already is not read again. The
+/// data of two windows of each are in memory at most.
 ///
 /// # Errors
 ///
@@ -233,17 +237,18 @@ fn read_two<D: Drive>(
     rt: &impl Threads,
     alloc: Global,
     many: &mut OverMany<'_, D>,
-    hits: &Both<'_>,
+    first: &FileHits<'_>,
+    second: &FileHits<'_>,
 ) -> Result<BothRead, AgainFault>
-    ensures one { IfOk result (λ read. IsDigested many.old [] hits.now.one.now read.one) }
-    ensures other { IfOk result (λ read. IsDigested many.old [] hits.now.other.now read.other) }
+    ensures one { IfOk result (λ read. IsDigested many.old (digested first.now) (unread first.now) read.one) }
+    ensures other { IfOk result (λ read. IsDigested many.old (digested second.now) (unread second.now) read.other) }
     ensures on { GoOn many.old many.new }
-    ensures changed { result ≡ Err Changed → GivesHits many.old hits.now.one.now → GivesHits many.old hits.now.other.now → ⊥ }
+    ensures changed { result ≡ Err Changed → GivesHits many.old (unread first.now) → GivesHits many.old (unread second.now) → ⊥ }
     ensures failed { result ≡ Err Failed → HaveFailed many.old many.new }
 {
     standing_stays();
-    let mut one = open(alloc, many, hits.one)?;
-    let mut other = open(alloc, many, hits.other)?;
+    let mut one = open(alloc, many, first)?;
+    let mut other = open(alloc, many, second)?;
     let rest = Both {
         one: one.rest,
         other: other.rest,
@@ -260,7 +265,7 @@ fn read_two<D: Drive>(
 /// # Errors
 ///
 /// `AllocError` if memory runs out.
-fn outcome_under(alloc: Global, run: &Run<'_>, read: Digesting) -> Result<Outcome, AllocError>
+fn outcome_under(alloc: Global, run: &FileRun<'_>, read: Digesting) -> Result<Outcome, AllocError>
     requires { IsWhole run.now.key read }
     ensures { IfOk result (λ outcome. read.hits.items ≡ run.now.hits → restored (run.now.key, outcome) ≡ file_of run.now) }
 {
@@ -285,8 +290,8 @@ pub(crate) fn files_by_two<D: Drive>(
     rt: &impl Threads,
     alloc: Global,
     many: &mut OverMany<'_, D>,
-    one: &Run<'_>,
-    other: &Run<'_>,
+    one: &FileRun<'_>,
+    other: &FileRun<'_>,
 ) -> Result<Outcomes, AgainFault>
     ensures one { IfOk result (λ both. GivesHits many.old one.now.hits → restored (one.now.key, both.one) ≡ file_of one.now) }
     ensures other { IfOk result (λ both. GivesHits many.old other.now.hits → restored (other.now.key, both.other) ≡ file_of other.now) }
@@ -294,11 +299,7 @@ pub(crate) fn files_by_two<D: Drive>(
     ensures changed { result ≡ Err Changed → GivesHits many.old one.now.hits → GivesHits many.old other.now.hits → ⊥ }
     ensures failed { result ≡ Err Failed → HaveFailed many.old many.new }
 {
-    let hits = Both {
-        one: one.hits,
-        other: other.hits,
-    };
-    let read = read_two(rt, alloc, many, &hits)?;
+    let read = read_two(rt, alloc, many, &one.file, &other.file)?;
     let first = outcome_under(alloc, one, read.one)?;
     let second = outcome_under(alloc, other, read.other)?;
     Ok(Outcomes {

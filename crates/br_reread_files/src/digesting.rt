@@ -1,6 +1,6 @@
 //! Files whose data are read and digested one window after another, and not kept. While another
 //! thread digests the data of one window, those of the next one are read.
-ghost use Rattle.std.specs.Prelude.{◌≡◌, ◌≤◌, ◌-◌, ◌++◌, [], length, map, nat_abs, Err, IfOk, OnOk};
+ghost use Rattle.std.specs.Prelude.{◌≡◌, ◌≤◌, ◌-◌, ◌++◌, length, map, nat_abs, Err, IfOk, OnOk};
 ghost use Rattle.std.specs.List.{AllByRecursion};
 ghost use Rattle.br_data.specs.declared.reread_fault.AgainFault.TheVariants.{Changed, Failed};
 ghost use Rattle.br_model.specs.Meaning as meaning;
@@ -11,8 +11,10 @@ ghost use Rattle.br_join.specs.Plain.{plain_bytes, plain_of};
 ghost use Rattle.br_records.specs.Records.{fragments};
 ghost use Rattle.br_data.specs.ManyDrives.{GoOn, HaveFailed};
 ghost use Rattle.br_reread_files.specs.Digesting.{AreRead, IsDigested, IsRead, IsWhole, ReadsOn};
+ghost use Rattle.br_reread_files.specs.FileHits.{digested, unread};
 ghost use Rattle.br_reread_parts.specs.Windows.{AppendsPlain, data_bytes};
 
+use crate::file_hits::FileHits;
 use crate::putting::has_sparse_data;
 use crate::rereading::{outcome_by, push_hit};
 use br_data::{AgainFault, Data, OverMany, Reading, standing_stays};
@@ -137,7 +139,7 @@ pub(crate) struct Opened<'h> {
     pub(crate) rest: &'h [Hit],
 }
 
-/// Reads the first window of a file.
+/// Begins a file with what is digested of it, and reads the first window of the others of its hits.
 ///
 /// # Errors
 ///
@@ -145,20 +147,17 @@ pub(crate) struct Opened<'h> {
 pub(crate) fn open<'h, D: Drive>(
     alloc: Global,
     many: &mut OverMany<'_, D>,
-    hits: &'h [Hit],
+    file: &FileHits<'h>,
 ) -> Result<Opened<'h>, AgainFault>
-    ensures read { IfOk result (λ file. ReadsOn many.old [] hits.now file.begun file.rest.now) }
+    ensures read { IfOk result (λ opened. ReadsOn many.old (digested file.now) (unread file.now) opened.begun opened.rest.now) }
     ensures on { GoOn many.old many.new }
-    ensures changed { result ≡ Err Changed → GivesHits many.old hits.now → ⊥ }
+    ensures changed { result ≡ Err Changed → GivesHits many.old (unread file.now) → ⊥ }
     ensures failed { result ≡ Err Failed → HaveFailed many.old many.new }
 {
-    let first = cut_window(hits, DIGESTED);
+    let first = cut_window(file.unread(), DIGESTED);
     let ahead = read_ahead(alloc, many, first.window)?;
-    let begun = Digesting {
-        reading: Reading::new(),
-        hits: ahead.hits,
-        window: ahead.window,
-    };
+    let mut begun = file.begin(alloc)?;
+    take_ahead(&mut begun, ahead)?;
     Ok(Opened {
         begun,
         rest: first.rest,
@@ -263,8 +262,8 @@ pub(crate) fn finish(alloc: Global, key: FileKey, read: Digesting) -> Result<Out
     outcome_with(alloc, key, &read.hits, bytes)
 }
 
-/// Returns the outcome of a file without sparse data. At most two windows of data are in memory,
-/// and the bytes of the file are not.
+/// Returns the outcome of a file without sparse data. What is digested already is not read again.
+/// At most two windows of data are in memory, and the bytes of the file are not.
 ///
 /// # Errors
 ///
@@ -275,19 +274,19 @@ fn plain_outcome_by<D: Drive>(
     alloc: Global,
     many: &mut OverMany<'_, D>,
     key: FileKey,
-    hits: &[Hit],
+    file: &FileHits<'_>,
 ) -> Result<Outcome, AgainFault>
-    requires { AllByRecursion (λ (h : meaning.Hit). h.key ≡ key) hits.now }
-    ensures made { IfOk result (λ outcome. GivesHits many.old hits.now → shown outcome ≡ model.outcome_of key (fragments hits.now)) }
+    requires { AllByRecursion (λ (h : meaning.Hit). h.key ≡ key) file.now.hits }
+    ensures made { IfOk result (λ outcome. GivesHits many.old (unread file.now) → shown outcome ≡ model.outcome_of key (fragments file.now.hits)) }
     ensures on { GoOn many.old many.new }
-    ensures changed { result ≡ Err Changed → GivesHits many.old hits.now → ⊥ }
+    ensures changed { result ≡ Err Changed → GivesHits many.old (unread file.now) → ⊥ }
     ensures failed { result ≡ Err Failed → HaveFailed many.old many.new }
 {
     standing_stays();
-    let mut file = open(alloc, many, hits)?;
-    let rest = file.rest;
-    digest_rest(rt, alloc, many, &mut file.begun, rest)?;
-    let outcome = finish(alloc, key, file.begun)?;
+    let mut opened = open(alloc, many, file)?;
+    let rest = opened.rest;
+    digest_rest(rt, alloc, many, &mut opened.begun, rest)?;
+    let outcome = finish(alloc, key, opened.begun)?;
     Ok(outcome)
 }
 
@@ -305,8 +304,9 @@ fn without_bytes(outcome: Outcome) -> Outcome
 }
 
 /// Returns the outcome of a file from its fragments, given in order of place; data that were let go
-/// are read again. The bytes of the file are not kept in memory. While they are read, at most two
-/// windows of them are in memory, or all of them if some are sparse.
+/// are read again, those of its front only if some data are sparse. The bytes of the file are not
+/// kept in memory. While they are read, at most two windows of them are in memory, or all of them if
+/// some are sparse.
 ///
 /// # Errors
 ///
@@ -316,17 +316,17 @@ pub(crate) fn digested_by<D: Drive>(
     alloc: Global,
     many: &mut OverMany<'_, D>,
     key: FileKey,
-    hits: &[Hit],
+    file: &FileHits<'_>,
 ) -> Result<Outcome, AgainFault>
-    requires { AllByRecursion (λ (h : meaning.Hit). h.key ≡ key) hits.now }
-    ensures made { IfOk result (λ outcome. GivesHits many.old hits.now → shown outcome ≡ model.outcome_of key (fragments hits.now)) }
+    requires { AllByRecursion (λ (h : meaning.Hit). h.key ≡ key) file.now.hits }
+    ensures made { IfOk result (λ outcome. GivesHits many.old file.now.hits → shown outcome ≡ model.outcome_of key (fragments file.now.hits)) }
     ensures on { GoOn many.old many.new }
-    ensures changed { result ≡ Err Changed → GivesHits many.old hits.now → ⊥ }
+    ensures changed { result ≡ Err Changed → GivesHits many.old file.now.hits → ⊥ }
     ensures failed { result ≡ Err Failed → HaveFailed many.old many.new }
 {
-    if !has_sparse_data(hits) {
-        return plain_outcome_by(rt, alloc, many, key, hits);
+    if !has_sparse_data(file.all()) {
+        return plain_outcome_by(rt, alloc, many, key, file);
     }
-    let outcome = outcome_by(alloc, many, key, hits)?;
+    let outcome = outcome_by(alloc, many, key, file.all())?;
     Ok(without_bytes(outcome))
 }

@@ -5,19 +5,20 @@ ghost use Rattle.br_data.specs.ManyDrives.{GoOn, HaveFailed};
 ghost use Rattle.br_reread_files.specs.Runs.{GivesRuns, StayFirst};
 
 use crate::both_digested::files_by_two;
+use crate::file_run::FileRun;
 use crate::made_again::{file_by, push_file};
 use crate::putting::has_sparse_data;
 use br_data::{AgainFault, OverMany, standing_stays};
-use br_join::{Outcome, Run};
+use br_join::Outcome;
 use br_reread_parts::{DIGESTED, cut_window};
 use br_types::FileKey;
 use br_volume::Drive;
 use std::alloc::Global;
 use std::thread::Threads;
 
-/// Returns whether a file has more data than one window, and no sparse data.
-fn is_long(run: &Run<'_>) -> bool {
-    !cut_window(run.hits, DIGESTED).rest.is_empty() && !has_sparse_data(run.hits)
+/// Returns whether more data of a file are read than one window, and none are sparse.
+fn is_long(run: &FileRun<'_>) -> bool {
+    !cut_window(run.file.unread(), DIGESTED).rest.is_empty() && !has_sparse_data(run.file.all())
 }
 
 /// Makes the next file: the one after as many as are made.
@@ -29,7 +30,7 @@ fn make_one<D: Drive>(
     rt: &impl Threads,
     alloc: Global,
     many: &mut OverMany<'_, D>,
-    runs: &[Run<'_>],
+    runs: &[FileRun<'_>],
     made: &mut Vec<(FileKey, Outcome)>,
 ) -> Result<(), AgainFault>
     requires { length made.old.items < length runs.now }
@@ -54,7 +55,7 @@ fn make_two<D: Drive>(
     rt: &impl Threads,
     alloc: Global,
     many: &mut OverMany<'_, D>,
-    runs: &[Run<'_>],
+    runs: &[FileRun<'_>],
     made: &mut Vec<(FileKey, Outcome)>,
 ) -> Result<(), AgainFault>
     requires { length made.old.items + 1 < length runs.now }
@@ -81,7 +82,7 @@ fn make_next<D: Drive>(
     rt: &impl Threads,
     alloc: Global,
     many: &mut OverMany<'_, D>,
-    runs: &[Run<'_>],
+    runs: &[FileRun<'_>],
     made: &mut Vec<(FileKey, Outcome)>,
     by_two: bool,
 ) -> Result<(), AgainFault>
@@ -110,7 +111,7 @@ pub(crate) fn make_left<D: Drive>(
     rt: &impl Threads,
     alloc: Global,
     many: &mut OverMany<'_, D>,
-    runs: &[Run<'_>],
+    runs: &[FileRun<'_>],
     made: &mut Vec<(FileKey, Outcome)>,
     by_two: bool,
 ) -> Result<(), AgainFault>

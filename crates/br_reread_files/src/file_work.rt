@@ -6,8 +6,9 @@ ghost use Rattle.br_reread_files.specs.Runs.{GivesRuns};
 ghost use Rattle.br_reread_files.specs.Sharing.{AppendsIfGiven, AreAllIfGiven, AreGivenBegun, IsBegun, MakesAllIfGiven};
 
 use crate::file_pairs::make_left;
+use crate::file_run::FileRun;
 use br_data::{AgainFault, OverMany, standing_stays};
-use br_join::{Outcome, Run};
+use br_join::Outcome;
 use br_types::FileKey;
 use br_volume::Drive;
 use std::alloc::{AllocError, Global};
@@ -16,14 +17,14 @@ use std::thread::Threads;
 /// Files in order of key, the first of them that are made, and the fault that ended it, if one did.
 #[derive(Drop)]
 pub(crate) struct Work<'r, 'h> {
-    pub(crate) runs: &'r [Run<'h>],
+    pub(crate) runs: &'r [FileRun<'h>],
     pub(crate) made: Vec<(FileKey, Outcome)>,
     pub(crate) end: Result<(), AgainFault>,
 }
 
 impl<'r, 'h> Work<'r, 'h> {
     /// Returns the work of these files. None of them is made yet.
-    pub(crate) fn new(alloc: Global, runs: &'r [Run<'h>]) -> Work<'r, 'h>
+    pub(crate) fn new(alloc: Global, runs: &'r [FileRun<'h>]) -> Work<'r, 'h>
         ensures runs { result.runs.now ≡ runs.now }
         ensures none { result.made.items ≡ [] }
     {

@@ -22,7 +22,7 @@ use crate::making::files_by;
 use crate::putting::{has_sparse_data, plain_run, put_whole};
 use crate::two_files::{KeyedItem, TwoDone, put_two};
 use br_data::{AgainFault, OverMany, standing_stays};
-use br_join::{Item, Joiner, Outcome};
+use br_join::{Fronts, Item, Joined, Joiner, Outcome};
 use br_match::Hit;
 use br_reread_parts::{PlainFile, put_plain};
 use br_sink::{PartsFault, Sink};
@@ -32,14 +32,17 @@ use std::alloc::{AllocError, Global};
 use std::marker::Model;
 use std::thread::Threads;
 
-/// The hits of a restore, in order of file and place, and the names of its plan, if it has one.
+/// The hits of a restore, in order of file and place, the names of its plan, if it has one, and what
+/// was made of the first hits of files.
 #[derive(Drop)]
 pub struct Gathered {
     hits: Vec<Hit>,
     names: Option<Names>,
+    fronts: Fronts,
 }
 
 impl Model for Gathered {
+    ghost use Rattle.br_join.specs.Front.{AreFronts};
     ghost use Rattle.br_records.specs.Runs.{AreListed};
     ghost use Rattle.br_reread_files.specs.Code.{coded_gathered};
     ghost use Rattle.br_reread_files.specs.Gathered as model;
@@ -50,11 +53,11 @@ impl Model for Gathered {
 
     ghost view = { λ g. record { hits = g.hits.items; names = g.names } };
 
-    ghost invariant = { λ g. AreListed g.hits.items };
+    ghost invariant = { λ g. AreListed g.hits.items × AreFronts g.fronts g.hits.items };
 }
 
 impl Gathered {
-    /// Returns the hits and names that the joiner took.
+    /// Returns the hits and names that the joiner took, and what it made of the first hits of files.
     ///
     /// # Errors
     ///
@@ -63,18 +66,27 @@ impl Gathered {
         ensures hits { IfOk result (λ g. hits_of g.hits ≡ joiner.hits) }
         ensures names { IfOk result (λ g. g.names ≡ joiner.names) }
     {
-        let (hits, names) = joiner.into_hits()?;
-        Ok(Gathered { hits, names })
+        let Joined {
+            hits,
+            names,
+            fronts,
+        } = joiner.into_hits()?;
+        Ok(Gathered {
+            hits,
+            names,
+            fronts,
+        })
     }
 
     /// Returns the same without the file bytes that are in memory: they are read again each time.
-    /// Attributes and digests stay.
+    /// Attributes and digests stay, and what was made of the first hits of files.
     pub fn let_go(self) -> Gathered
         ensures { result ≡ self }
     {
         Gathered {
             hits: lightened(self.hits),
             names: self.names,
+            fronts: self.fronts,
         }
     }
 
@@ -88,7 +100,8 @@ impl Gathered {
     /// Makes the files, in order of key: the planned ones if there is a plan, else those that were
     /// found. Each drive makes some of them, in its own thread. A drive has at most two windows of
     /// data in memory, each of about 1 MiB, one of which another thread digests; of a file with
-    /// sparse data it has all data. The bytes of the file are not kept.
+    /// sparse data it has all data. The bytes of the file are not kept. What was made of the first
+    /// hits of a file is not read again.
     ///
     /// # Errors
     ///
@@ -105,7 +118,14 @@ impl Gathered {
         ensures changed { result ≡ Err Changed → GivesHits many.old self.now.hits → ⊥ }
         ensures failed { result ≡ Err Failed → HaveFailed many.old many.new }
     {
-        files_by(rt, alloc, many, &self.hits, self.names.as_ref())
+        files_by(
+            rt,
+            alloc,
+            many,
+            &self.hits,
+            self.names.as_ref(),
+            &self.fronts,
+        )
     }
 
     /// Makes the files among these outcomes once more, in their order, and skips the faults. Their

@@ -8,7 +8,9 @@
 
 mod both_digested;
 mod digesting;
+mod file_hits;
 mod file_pairs;
+mod file_run;
 mod file_work;
 mod files_once_more;
 mod gathered;

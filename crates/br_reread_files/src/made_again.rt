@@ -7,8 +7,9 @@ ghost use Rattle.br_data.specs.ManyDrives.{GoOn, HaveFailed};
 ghost use Rattle.br_join.specs.Runs.{file_of};
 
 use crate::digesting::digested_by;
+use crate::file_run::FileRun;
 use br_data::{AgainFault, OverMany};
-use br_join::{Outcome, Run, named};
+use br_join::{Outcome, named};
 use br_types::FileKey;
 use br_volume::Drive;
 use std::alloc::{AllocError, Global};
@@ -33,13 +34,13 @@ pub(crate) fn file_by<D: Drive>(
     rt: &impl Threads,
     alloc: Global,
     many: &mut OverMany<'_, D>,
-    run: &Run<'_>,
+    run: &FileRun<'_>,
 ) -> Result<Outcome, AgainFault>
     ensures made { IfOk result (λ outcome. GivesHits many.old run.now.hits → restored (run.now.key, outcome) ≡ file_of run.now) }
     ensures on { GoOn many.old many.new }
     ensures changed { result ≡ Err Changed → GivesHits many.old run.now.hits → ⊥ }
     ensures failed { result ≡ Err Failed → HaveFailed many.old many.new }
 {
-    let outcome = digested_by(rt, alloc, many, run.key, run.hits)?;
+    let outcome = digested_by(rt, alloc, many, run.key, &run.file)?;
     Ok(named(run.path, outcome))
 }

@@ -9,10 +9,11 @@ ghost use Rattle.br_reread_files.specs.Runs.{GivesRuns};
 ghost use Rattle.br_reread_files.specs.Sharing.{AreBegunIfGiven, EachPairAt, HasMade, drives_from_last, many_over, runs_in};
 
 use crate::file_pairs::make_left;
+use crate::file_run::FileRun;
 use crate::file_work::{Work, finish_all};
 use br_bsr::Group;
 use br_data::{AgainFault, OverMany, standing_stays};
-use br_join::{Outcome, Run};
+use br_join::Outcome;
 use br_types::FileKey;
 use br_volume::Drive;
 use std::alloc::{AllocError, Global};
@@ -45,17 +46,21 @@ impl<'r, 'h, D: Drive> FileShare<'r, 'h, D> {
     }
 }
 
-/// Returns how many bytes the hits of a file have; at most 2^64 - 1 are counted.
-fn len_of(run: &Run<'_>) -> u64 {
-    let mut bytes = 0u64;
-    for hit in run.hits {
+/// The bytes that a file counts beside those which are read: to make it takes time, too.
+const MAKING: u64 = 1 << 12;
+
+/// Returns how many bytes of a file are read, and the ones that it counts in any case; at most
+/// 2^64 - 1 are counted.
+fn len_of(run: &FileRun<'_>) -> u64 {
+    let mut bytes = MAKING;
+    for hit in run.file.unread() {
         bytes = bytes.saturating_add(hit.data.len() as u64);
     }
     bytes
 }
 
 /// Returns how many bytes the files have; at most 2^64 - 1 are counted.
-fn bytes_in(runs: &[Run<'_>]) -> u64 {
+fn bytes_in(runs: &[FileRun<'_>]) -> u64 {
     let mut bytes = 0u64;
     for run in runs {
         bytes = bytes.saturating_add(len_of(run));
@@ -65,7 +70,7 @@ fn bytes_in(runs: &[Run<'_>]) -> u64 {
 
 /// Returns the least number of first files that together have this number of bytes; all if there
 /// are fewer bytes.
-fn first_with(runs: &[Run<'_>], bytes: u64) -> usize
+fn first_with(runs: &[FileRun<'_>], bytes: u64) -> usize
     ensures { result ≤ length runs.now }
 {
     let mut seen = 0u64;
@@ -79,7 +84,7 @@ fn first_with(runs: &[Run<'_>], bytes: u64) -> usize
 
 /// Returns the next files after the first `from`: together they have at least this number of bytes,
 /// or they are all that are left.
-fn next_with<'r, 'h>(runs: &'r [Run<'h>], from: usize, bytes: u64) -> &'r [Run<'h>]
+fn next_with<'r, 'h>(runs: &'r [FileRun<'h>], from: usize, bytes: u64) -> &'r [FileRun<'h>]
     requires { from ≤ length runs.now }
     ensures within { from + length result.now ≤ length runs.now }
     ensures next { result.now ++ drop (from + length result.now) runs.now ≡ drop from runs.now }
@@ -93,7 +98,7 @@ fn next_with<'r, 'h>(runs: &'r [Run<'h>], from: usize, bytes: u64) -> &'r [Run<'
 fn works_for<'r, 'h>(
     alloc: Global,
     count: usize,
-    runs: &'r [Run<'h>],
+    runs: &'r [FileRun<'h>],
 ) -> Result<Vec<Work<'r, 'h>>, AllocError>
     requires { 0 < count }
     ensures many { IfOk result (λ works. length works.items ≡ count) }
@@ -260,7 +265,7 @@ pub(crate) fn made_side_by_side<D: Drive + Send>(
     rt: &(impl Threads + Sync),
     alloc: Global,
     many: &mut OverMany<'_, D>,
-    runs: &[Run<'_>],
+    runs: &[FileRun<'_>],
 ) -> Result<Vec<(FileKey, Outcome)>, AgainFault>
     requires { 0 < length many.old.drives }
     ensures files { IfOk result (λ made. GivesRuns many.old runs.now → map restored made.items ≡ map file_of runs.now) }

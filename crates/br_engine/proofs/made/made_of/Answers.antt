@@ -50,7 +50,7 @@ returns-in_err-outcomes-clause-changed g c =
     let gathered = c.in_ok-gathered.gathered in
     let ds = driven_by shows failures c.args.drives.now.items in
     let e : m.drives ≡ ds = c.new-many.ensures.drives ∙ ap (λ (v : Vec g.row.D.Denot Global). driven_by shows failures v.items) c.replace-taken.ensures.value in
-    let listed : AreListed gathered.hits = subst (λ (v : Gathered). AreListed v.hits) c.gathered.view_is c.gathered.invariant in
+    let listed : AreListed gathered.hits = subst (λ (v : Gathered). AreListed v.hits) c.gathered.view_is c.gathered.invariant.0 in
     let p = err_from_is_err_and c.from_residual-in_err-outcomes.result c.from_residual-in_err-outcomes.ensures.1 in
     rw p.1
     (λ is can.
@@ -69,7 +69,7 @@ returns-clause-made g c = λ given.
     c.new-many.ensures.drives ∙ ap (λ (v : Vec g.row.D.Denot Global). driven_by shows failures v.items) c.replace-taken.ensures.value in
     let f : driven_by shows failures c.replace-none.new.dest.items ≡ n.drives =
     ap (λ (v : Vec g.row.D.Denot Global). driven_by shows failures v.items) c.replace-none.ensures.after ∙ c.into_drives.ensures in
-    let listed : AreListed c.in_ok-gathered.gathered.hits = subst (λ (v : Gathered). AreListed v.hits) c.gathered.view_is c.gathered.invariant in
+    let listed : AreListed c.in_ok-gathered.gathered.hits = subst (λ (v : Gathered). AreListed v.hits) c.gathered.view_is c.gathered.invariant.0 in
     files_made m c.in_ok-gathered.gathered c.args.joiner.hits c.args.joiner.names (map restored c.in_ok-outcomes.outcomes.items) (driven_by shows failures c.args.drives.now.items)
     c.args.groups.now c.in_ok-gathered.ensures.hits c.in_ok-gathered.ensures.names listed e c.new-many.ensures.groups c.in_ok-outcomes.ensures.files given
 
@@ -83,7 +83,7 @@ returns-clause-again g c = λ given.
     c.new-many.ensures.drives ∙ ap (λ (v : Vec g.row.D.Denot Global). driven_by shows failures v.items) c.replace-taken.ensures.value in
     let f : driven_by shows failures c.replace-none.new.dest.items ≡ n.drives =
     ap (λ (v : Vec g.row.D.Denot Global). driven_by shows failures v.items) c.replace-none.ensures.after ∙ c.into_drives.ensures in
-    let listed : AreListed c.in_ok-gathered.gathered.hits = subst (λ (v : Gathered). AreListed v.hits) c.gathered.view_is c.gathered.invariant in
+    let listed : AreListed c.in_ok-gathered.gathered.hits = subst (λ (v : Gathered). AreListed v.hits) c.gathered.view_is c.gathered.invariant.0 in
     subst (λ (v : Gathered). CanGive shows failures c.replace-none.new.dest.items c.args.groups.now (Some v) (map restored c.in_ok-outcomes.outcomes.items)) (sym c.lighter.ensures)
     (made_again m c.in_ok-gathered.gathered c.args.joiner.hits c.args.joiner.names (map restored c.in_ok-outcomes.outcomes.items) (driven_by shows failures c.args.drives.now.items)
     c.args.groups.now c.in_ok-gathered.ensures.hits c.in_ok-gathered.ensures.names listed e c.new-many.ensures.groups c.in_ok-outcomes.ensures.files given
