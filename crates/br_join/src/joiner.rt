@@ -284,7 +284,7 @@ impl Joiner {
         match files_of(rt, *hits.allocator(), &hits, self.names.as_ref()) {
             Ok(outcomes) => {
                 open_again(&mut self.pieces);
-                self.floor.rise(&self.pieces);
+                self.floor.fall();
                 self.room = self.room.emptied();
                 Ok(outcomes)
             }
