@@ -4,4 +4,5 @@ pub mod ExtractTasks
 pub mod CheckCommand
 pub mod Explaining
 pub mod MemoryScriptEnding
+pub mod FolderVolumes
 pub mod Serving

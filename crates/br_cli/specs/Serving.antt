@@ -1,5 +1,5 @@
 -- The means of a script over files, and why it did not begin.
-use Rattle.std.specs.Prelude.{◌≡◌, ℕ, List, [], Result, Ok, string_bytes, ⊤}
+use Rattle.std.specs.Prelude.{◌≡◌, ℕ, List, [], Result, Ok, ⊤}
 use Rattle.br_model.specs.Job.{JobRows}
 use Rattle.br_keeper.specs.Publishing.{publishing}
 use Rattle.br_keeper.specs.Fault as keeper
@@ -9,7 +9,6 @@ use Rattle.br_keeper.specs.declared.job_store.JobStoreFault.{JobStoreFault}
 use Rattle.br_keeper.specs.Catalogue.{catalogue_number}
 use Rattle.br_cli.specs.declared.serve_command.ServeStartFault.{ServeStartFault}
 use Rattle.br_cli.specs.declared.serve_command.ServeStartFault.TheVariants.{Memory, Catalogue, Keeper}
-use Rattle.br_cli.specs.declared.folder_volumes.FolderVolumes.{FolderVolumes}
 
 -- the number of the refusal
 abbrev pub start_number : ServeStartFault → ℕ
@@ -29,7 +28,3 @@ abbrev pub IsNotBegun : {C : Type 0} → (C → C → Result (List JobRows) JobS
 IsNotBegun loads opens Memory = ⊤
 IsNotBegun loads opens (Catalogue fault) = ⊤
 IsNotBegun {C} loads opens (Keeper fault) = (opened : C) × opens opened × IsNotMade loads opened fault
-
--- jobs are appended to the volumes in the folder with this path, and its drives read there
-abbrev pub IsFolder : List ℕ → FolderVolumes → Type 0
-IsFolder path volumes = (string_bytes volumes.path ≡ path) × (volumes.store.path ≡ path)

@@ -1,38 +1,65 @@
 //! The volumes in a folder of the system. Jobs are appended to them, and restores read them.
 ghost use Rattle.std.specs.Prelude.{◌≡◌, length, string_bytes, IfOk};
 ghost use Rattle.br_pool.specs.Pool.{AreDrives};
+ghost use Rattle.br_volume.specs.Folder.{store_over, volumes_told};
 ghost use Rattle.br_volume.specs.HostDrives.{AreOver, AreUntold};
-ghost use Rattle.br_cli.specs.Serving.{IsFolder};
+ghost use Rattle.br_cli.specs.FolderVolumes.{IsFolder};
 
 use br_console::{DriveCount, DrivenRestore, DrivenStore, VolumeReader, restore_by};
 use br_engine::{Budget, ExtractFault, Restore, RestoreEnd};
-use br_fs::HostDisk;
+use br_fs::{Disk, HostDisk};
 use br_sink::MemSink;
 use br_types::VolName;
 use br_volume::{FolderStore, HostDrive, VolumeFault, VolumeStore, drives_over};
 use std::alloc::{AllocError, Global};
 use std::io::Write;
+use std::marker::Model;
 use std::sync::Wait;
 use std::thread::Threads;
 
-/// The volumes in a folder of the system.
+/// The volumes in a folder of a disk. If the disk tells its files, the clauses of `VolumeStore` hold
+/// for them completely. Restores read in the system's folder with the same path.
 #[derive(Drop)]
-pub struct FolderVolumes<'r> {
+pub struct FolderVolumes<'r, D: Disk + Drop> {
     rt: &'r HostRuntime,
     path: String,
-    store: FolderStore<HostDisk<&'r HostRuntime>>,
+    store: FolderStore<D>,
 }
 
-impl<'r> FolderVolumes<'r> {
-    /// Returns the volumes in the folder with this path. Opens nothing yet.
-    pub(crate) fn new(rt: &'r HostRuntime, path: &str) -> Result<FolderVolumes<'r>, AllocError>
-        ensures { IfOk result (IsFolder path.now) }
+impl<'r, D: Disk + Drop> Model for FolderVolumes<'r, D> {
+    ghost use Rattle.std.specs.Prelude.{◌≡◌, string_bytes, None};
+    ghost use Rattle.br_cli.specs.FolderVolumes.{NeverTells, VolumesInFolder};
+
+    ghost Value = { VolumesInFolder };
+
+    ghost view = { λ v. record { path = string_bytes v.path; store = v.store } };
+
+    ghost invariant = { λ v. NeverTells D.told → v.store.told ≡ None };
+}
+
+/// The volumes in a folder of the system.
+pub type HostVolumes<'r> = FolderVolumes<'r, HostDisk<&'r HostRuntime>>;
+
+impl<'r, D: Disk + Drop> FolderVolumes<'r, D> {
+    /// Returns the volumes in the disk's folder with this path. Opens nothing yet.
+    fn over(rt: &'r HostRuntime, disk: D, path: &str) -> Result<FolderVolumes<'r, D>, AllocError>
+        ensures folder { IfOk result (IsFolder path.now) }
+        ensures over { IfOk result (λ v. v.store ≡ store_over (D.told disk) (D.durable disk) (D.failed_syncs disk) path.now) }
     {
         Ok(FolderVolumes {
             rt,
             path: String::from_str(rt.alloc(), path)?,
-            store: FolderStore::new(rt.alloc(), rt, path)?,
+            store: FolderStore::over(rt.alloc(), disk, path)?,
         })
+    }
+}
+
+impl<'r> FolderVolumes<'r, HostDisk<&'r HostRuntime>> {
+    /// Returns the volumes in the system's folder with this path. Opens nothing yet.
+    pub(crate) fn new(rt: &'r HostRuntime, path: &str) -> Result<HostVolumes<'r>, AllocError>
+        ensures { IfOk result (IsFolder path.now) }
+    {
+        FolderVolumes::over(rt, HostDisk::new(rt.alloc(), rt), path)
     }
 }
 
@@ -56,12 +83,12 @@ impl FolderReader {
     }
 }
 
-impl VolumeStore for FolderVolumes<'_> {
-    ghost use Rattle.std.specs.Prelude.{None};
+impl<D: Disk + Drop> VolumeStore for FolderVolumes<'_, D> {
+    ghost use Rattle.br_volume.specs.Folder.{durable_told, volumes_told};
 
-    ghost holds = { λ _. None };
+    ghost holds = { λ v. volumes_told v.store.path v.store.told };
 
-    ghost durable = { λ _. None };
+    ghost durable = { λ v. durable_told v.store.path v.store.durable };
 
     ghost failures = { λ v. v.store.failures };
 
@@ -101,7 +128,7 @@ impl VolumeReader for FolderReader {
     }
 }
 
-impl DrivenStore for FolderVolumes<'_> {
+impl<'r> DrivenStore for FolderVolumes<'r, HostDisk<&'r HostRuntime>> {
     ghost use Rattle.std.specs.Prelude.{List, None, Option};
     ghost use Rattle.br_model.specs.Volume.{Volume};
 
@@ -109,8 +136,8 @@ impl DrivenStore for FolderVolumes<'_> {
 
     /// Returns a reader of the same folder.
     fn reader(&self, alloc: Global) -> Result<FolderReader, AllocError>
-        ensures shows { IfOk result (λ _. ◌≡◌ {A = Option (List Volume)} None None) }
-        ensures folder { IfOk result (λ reader. string_bytes reader.path ≡ string_bytes self.now.path) }
+        ensures shows { IfOk result (λ _. ◌≡◌ {A = Option (List Volume)} None (volumes_told self.now.store.path self.now.store.told)) }
+        ensures folder { IfOk result (λ reader. string_bytes reader.path ≡ self.now.path) }
     {
         Ok(FolderReader {
             rt: *self.rt,

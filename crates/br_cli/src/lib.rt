@@ -21,7 +21,7 @@ pub use explain_command::{explain_all, explain_number};
 pub use extract_command::{
     ExtractStartFault, Extraction, extract_ending, extract_files, extract_over, set_up_extract,
 };
-pub use folder_volumes::{FolderReader, FolderVolumes};
+pub use folder_volumes::{FolderReader, FolderVolumes, HostVolumes};
 pub use memory_script::{answer, serve_memory};
 pub use migrate_command::migrate_catalogue;
 pub use serve_command::{

@@ -2,10 +2,11 @@
 ghost use Rattle.std.specs.Prelude.{◌≡◌, IfErr, IfOk};
 ghost use Rattle.br_console.specs.ScriptDeeds.{DoesSome};
 ghost use Rattle.br_cli.specs.MemoryScriptEnding.{IsStatus};
-ghost use Rattle.br_cli.specs.Serving.{IsFolder, IsLoaded, IsNotBegun, start_number};
+ghost use Rattle.br_cli.specs.FolderVolumes.{IsFolder};
+ghost use Rattle.br_cli.specs.Serving.{IsLoaded, IsNotBegun, start_number};
 ghost use Rattle.br_cli.specs.declared.serve_command.ServeStartFault.TheVariants as start;
 
-use crate::folder_volumes::FolderVolumes;
+use crate::folder_volumes::{FolderVolumes, HostVolumes};
 use crate::memory_script::{flushed_end, refuse_memory};
 use br_cli_common::{ServeOptions, refuse_start, show_lines};
 use br_console::{DrivenStore, run_script_over};
@@ -92,7 +93,7 @@ pub fn set_up_serve<'r, C: Catalogue>(
     threads: &impl Wait,
     catalogue: &C,
     given: &ServeOptions<'_>,
-) -> Result<ServeSetup<C::Jobs, FolderVolumes<'r>>, ServeStartFault>
+) -> Result<ServeSetup<C::Jobs, HostVolumes<'r>>, ServeStartFault>
     ensures jobs { IfOk result (λ setup. IsLoaded C.Jobs.loads (C.opens catalogue.now given.now.db.now) setup.keeper) }
     ensures volumes { IfOk result (λ setup. IsFolder given.now.volumes.now setup.keeper.volumes) }
     ensures own { IfOk result (λ setup. setup.session.book ≡ setup.keeper.list.book) }
