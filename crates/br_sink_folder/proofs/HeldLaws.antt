@@ -1,16 +1,17 @@
 -- What is left below a folder while files are put, some of which are held open.
-use Rattle.std.proofs.Common.{◌≡◌, ℕ, ◌<◌, ◌≤◌, ◌+◌, ◌⊎◌, Bool, true, false, cond, Option, Some, None, Ok, List, [], ◌∷◌, ◌++◌, length, get_or, set, take, drop, inl, inr, refl, ap, sym, subst, ◌∙◌, arith}
-use Rattle.std.specs.Prelude.{◌&&◌, bytes_eq, suc}
+use Rattle.std.proofs.Common.{◌≡◌, ℕ, zero, suc, ◌<◌, ◌≤◌, ◌+◌, ◌⊎◌, Bool, true, false, cond, Option, Some, None, Ok, List, [], ◌∷◌, ◌++◌, length, get_or, set, take, drop, inl, inr, refl, ap, sym, subst, ◌∙◌, arith}
+use Rattle.std.specs.Prelude.{◌&&◌, bytes_eq, ⊤}
 use Rattle.std.specs.List.{AllByRecursion}
 use Rattle.std.proofs.lemmas.List.{drop-set-lt, drop_all, drop_more, map-append, take_all, take_more_set}
 use Rattle.std.proofs.lemmas.List.Sums.{fold-append}
 use Rattle.std.proofs.lemmas.Slice.Eq.{bytes_eq-Decides}
 use Rattle.std.specs.Io.KnownBytes.{Appends}
 use Rattle.br_model.specs.File.{Item, has_bytes}
-use Rattle.br_fs.specs.Making.{Nodes, Node, Bytes, Opened, AreSet, IsFinished, IsFree, MakesFile, node_at}
-use Rattle.br_sink_folder.specs.Below.{AddsFolders, IsNewFolder, KeepsOutside, PutsBelow}
+use Rattle.br_fs.specs.Making.{Nodes, Node, Bytes, Opened, AreSet, IsFinished, IsFree, KeepsOthers, MakesFile, node_at}
+use Rattle.br_sink_folder.specs.Below.{AddsFolders, IsNewFolder, PutsBelow}
 use Rattle.br_sink_folder.specs.FolderSink.{PutsItem}
-use Rattle.br_sink_folder.specs.Held.{AppendsSome, AreAnswered, AreLast, FinishesOne, FinishesSome, HaveOwnPaths, Holds, HoldsOver, IsLeft, IsNew, IsOpenWith, IsWritten, LeavesFiles, MakesOne, NoneAt, WritesEach, WritesOne, bytes_after, bytes_put, items_of}
+use Rattle.br_sink_folder.specs.Held.{AnsweredAt, AppendsSome, AreAnswered, AreLast, ArePlaced, FinishesOne, FinishesSome, HaveOwnPaths, Holds, HoldsOver, IsLeft, IsNew, IsOpenWith, IsWritten, LeavesAnswered, LeavesFiles, MakesOne, NoneAt, Rise, WritesEach, WritesOne, bytes_after, bytes_put, items_of, path_at}
+use Rattle.br_sink_folder.specs.Removed.{files_of}
 use Rattle.br_sink_folder.specs.declared.window.Made.{Made}
 use Rattle.br_sink_folder.proofs.BelowLaws.{adds_both, differs}
 
@@ -102,6 +103,54 @@ last_none root items [] item last no_bytes = tt
 last_none root items (x ∷ its) item last no_bytes =
     (put_none root (root ++ x.path) items item no_bytes ∙ last.0, last_none root items its item last.1 no_bytes)
 
+-- the items at their places
+
+path_more : (items : List Item) (item : Item) (n : ℕ) (path : List ℕ) → path_at items n ≡ Some path → path_at (items ++ item ∷ []) n ≡ Some path
+path_more [] item n path is = absurd cc
+path_more (x ∷ items) item zero path is = is
+path_more (x ∷ items) item (suc n) path is = path_more items item n path is
+
+path_new : (items : List Item) (item : Item) (n : ℕ) → n ≡ length items → path_at (items ++ item ∷ []) n ≡ Some item.path
+path_new [] item n is = ap (λ (k : ℕ). path_at (item ∷ []) k) is
+path_new (x ∷ items) item zero is = absurd (omega (arith, is))
+path_new (x ∷ items) item (suc n) is = path_new items item n (omega (arith, is))
+
+path_low : (items : List Item) (n : ℕ) (path : List ℕ) → path_at items n ≡ Some path → n < length items
+path_low [] n path is = absurd cc
+path_low (x ∷ items) zero path is = omega arith
+path_low (x ∷ items) (suc n) path is = let low = path_low items n path is in omega (arith, low)
+
+placed_more : (items : List Item) (item : Item) (files : List (ℕ × List ℕ)) → ArePlaced items files → ArePlaced (items ++ item ∷ []) files
+placed_more items item [] placed = tt
+placed_more items item (file ∷ files) placed = (path_more items item file.0 file.1 placed.0, placed_more items item files placed.1)
+
+all_low : (items : List Item) (n : ℕ) (files : List (ℕ × List ℕ)) → n ≡ length items → ArePlaced items files
+    → AllByRecursion (λ (file : ℕ × List ℕ). file.0 < n) files
+all_low items n [] is placed = tt
+all_low items n (file ∷ files) is placed =
+    let low = path_low items file.0 file.1 placed.0 in (omega (arith, low, is), all_low items n files is placed.1)
+
+rise_more : (files : List (ℕ × List ℕ)) (file : ℕ × List ℕ) → Rise files → AllByRecursion (λ (other : ℕ × List ℕ). other.0 < file.0) files
+    → Rise (files ++ file ∷ [])
+rise_more [] file rise low = (tt, tt)
+rise_more (first ∷ files) file rise low =
+    (all_more (λ (later : ℕ × List ℕ). first.0 < later.0) files file rise.0 low.0, rise_more files file rise.1 low.1)
+
+-- of the written files some are finished, unless their result is a fault, and the others are left
+
+pub record Closes {W : Type 0} (contents : W → Option (List ℕ)) (root : List ℕ) (items : List Item) (done left : List (Made W))
+    (earlier later : Nodes) : Type 0 where
+  pub rest : (path : List ℕ) → AnsweredAt root path done → NoneAt root path (items_of left) → IsLeft root path (bytes_put root items path) earlier later
+  pub apart : HaveOwnPaths root (items_of left)
+  pub last : AreLast root items (items_of left)
+  pub each : AllByRecursion (IsWritten contents root later) left
+
+abbrev pub ClosesOver : {W : Type 0} → (W → Option (List ℕ)) → List ℕ → List Item → List (Made W) → List (Made W) → Option Nodes → Option Nodes → Type 0
+ClosesOver contents root items done left None None = ⊤
+ClosesOver contents root items done left (Some earlier) (Some later) = Closes contents root items done left earlier later
+ClosesOver contents root items done left None (Some later) = ⊥
+ClosesOver contents root items done left (Some earlier) None = ⊥
+
 module _ {W : Type 0} (contents : W → Option (List ℕ)) (root : List ℕ) where
   -- files that are open stay so where their paths are not changed
 
@@ -123,13 +172,14 @@ module _ {W : Type 0} (contents : W → Option (List ℕ)) (root : List ℕ) whe
   new_set path left b c (m ∷ made) set none each =
       (open_still [] b c m each.0 (inl (set_apart path (root ++ m.item.now.path) left b c set (λ is. none.0 (sym is)))), new_set path left b c made set none.1 each.1)
 
-  written_set : (path : List ℕ) (node : Option Node) (b c : Nodes) (made : List (Made W)) → AreSet path node b c
+  written_kept : (path : List ℕ) (b c : Nodes) (made : List (Made W))
+      → ((other : List ℕ) → bytes_eq path other ≡ false → node_at c other ≡ node_at b other)
       → NoneAt root path (items_of made) → AllByRecursion (IsWritten contents root b) made → AllByRecursion (IsWritten contents root c) made
-  written_set path left b c [] set none each = tt
-  written_set path left b c (m ∷ made) set none each = (
-    (λ ok. open_still m.item.now.bytes b c m (each.0 ok) (inl (set_apart path (root ++ m.item.now.path) left b c set (λ is. none.0 (sym is))))),
-    written_set path left b c made set none.1 each.1,
-  )
+  written_kept path b c [] kept none each = tt
+  written_kept path b c (m ∷ made) kept none each =
+      let own : List ℕ = root ++ m.item.now.path in
+      let apart = differs path own (λ is. none.0 (sym is)) (bytes_eq path own) refl in
+      ((λ ok. open_still m.item.now.bytes b c m (each.0 ok) (inl (kept own apart))), written_kept path b c made kept none.1 each.1)
 
   -- if nothing is at a path, no file is open there
   none_open : (path : List ℕ) (b : Nodes) (made : List (Made W)) → node_at b path ≡ None → AllByRecursion (IsNew contents root b) made
@@ -149,6 +199,8 @@ module _ {W : Type 0} (contents : W → Option (List ℕ)) (root : List ℕ) whe
     rest = λ path none. folder_left root path (bytes_put root items path) a b c (h.rest path none) (added path);
     apart = h.apart;
     last = h.last;
+    placed = h.placed;
+    rise = h.rise;
     each = new_folders b c made added h.each;
   }
 
@@ -169,6 +221,8 @@ module _ {W : Type 0} (contents : W → Option (List ℕ)) (root : List ℕ) whe
     rest = λ path free. subst (λ (was : Option (List ℕ)). IsLeft root path was a b) (sym (put_none root path items item none)) (h.rest path free);
     apart = h.apart;
     last = last_none root items (items_of made) item h.last none;
+    placed = placed_more items item (files_of made) h.placed;
+    rise = h.rise;
     each = h.each;
   }
 
@@ -182,14 +236,17 @@ module _ {W : Type 0} (contents : W → Option (List ℕ)) (root : List ℕ) whe
   -- a new file is held
 
   one_more : (items : List Item) (made : List (Made W)) (m : Made W) (file : W) (n : ℕ) (a b c : Nodes) → has_bytes m.item.now.kind ≡ true
-      → Holds (IsNew contents root) root items made a b → node_at b (root ++ m.item.now.path) ≡ None
+      → m.place ≡ length items → Holds (IsNew contents root) root items made a b → node_at b (root ++ m.item.now.path) ≡ None
       → m.file ≡ Some file → contents file ≡ Some (n ∷ []) → AreSet (root ++ m.item.now.path) (Some (Opened n)) b c
       → Holds (IsNew contents root) root (items ++ m.item.now ∷ []) (made ++ m ∷ []) a c
-  one_more items made m file n a b c has h free is new set =
+  one_more items made m file n a b c has place h free is new set =
       let item : Item = m.item.now in
       let path : List ℕ = root ++ item.path in
       let none = none_open path b made free h.each in
       let all : items_of (made ++ m ∷ []) ≡ items_of made ++ item ∷ [] = map-append (λ (o : Made W). o.item.now) made (m ∷ []) in
+      let new_file : ℕ × List ℕ = (m.place, item.path) in
+      let files : files_of (made ++ m ∷ []) ≡ files_of made ++ new_file ∷ [] = map-append (λ (o : Made W). (o.place, o.item.now.path)) made (m ∷ []) in
+      let own_place = path_new items item m.place place in
       record {
         rest = λ other apart.
             let away = subst (NoneAt root other) all apart in
@@ -202,30 +259,35 @@ module _ {W : Type 0} (contents : W → Option (List ℕ)) (root : List ℕ) whe
             subst (AreLast root (items ++ item ∷ [])) (sym all)
             (all_more (λ (i : Item). bytes_put root (items ++ item ∷ []) (root ++ i.path) ≡ Some i.bytes) (items_of made) item
             (last_apart root items (items_of made) item h.last none) (put_own root items item has));
+        placed =
+            subst (ArePlaced (items ++ item ∷ [])) (sym files)
+            (all_more (λ (file : ℕ × List ℕ). path_at (items ++ item ∷ []) file.0 ≡ Some file.1) (files_of made) new_file
+            (placed_more items item (files_of made) h.placed) own_place);
+        rise = subst Rise (sym files) (rise_more (files_of made) new_file h.rise (all_low items m.place (files_of made) place h.placed));
         each =
             all_more (IsNew contents root c) made m (new_set path (Some (Opened n)) b c made set none h.each)
             (file, n, is, new, set_own path (Some (Opened n)) b c set);
       }
 
   more_over : (items : List Item) (made : List (Made W)) (m : Made W) (file : W) (a b c : Option Nodes) → has_bytes m.item.now.kind ≡ true
-      → HoldsOver (IsNew contents root) root items made a b → IsFree b (root ++ m.item.now.path)
+      → m.place ≡ length items → HoldsOver (IsNew contents root) root items made a b → IsFree b (root ++ m.item.now.path)
       → m.file ≡ Some file → MakesFile (root ++ m.item.now.path) (contents file) b c
       → HoldsOver (IsNew contents root) root (items ++ m.item.now ∷ []) (made ++ m ∷ []) a c
-  more_over items made m file None None None has h free is new = tt
-  more_over items made m file None None (Some c) has h free is new = absurd new
-  more_over items made m file None (Some b) c has h free is new = absurd h
-  more_over items made m file (Some a) None c has h free is new = absurd h
-  more_over items made m file (Some a) (Some b) None has h free is new = absurd new
-  more_over items made m file (Some a) (Some b) (Some c) has h free is new =
-      one_more items made m file new.0 a b c has h free is new.1 new.2
+  more_over items made m file None None None has place h free is new = tt
+  more_over items made m file None None (Some c) has place h free is new = absurd new
+  more_over items made m file None (Some b) c has place h free is new = absurd h
+  more_over items made m file (Some a) None c has place h free is new = absurd h
+  more_over items made m file (Some a) (Some b) None has place h free is new = absurd new
+  more_over items made m file (Some a) (Some b) (Some c) has place h free is new =
+      one_more items made m file new.0 a b c has place h free is new.1 new.2
 
-  pub over_more : (items : List Item) (made after : List (Made W)) (m : Made W) (item : Item) (a b c : Option Nodes) → m.item.now ≡ item
-      → after ≡ made ++ m ∷ [] → has_bytes item.kind ≡ true → HoldsOver (IsNew contents root) root items made a b
+  pub over_more : (items : List Item) (made after : List (Made W)) (m : Made W) (item : Item) (place : ℕ) (a b c : Option Nodes)
+      → m.item.now ≡ item → m.place ≡ place → place ≡ length items → after ≡ made ++ m ∷ [] → has_bytes item.kind ≡ true → HoldsOver (IsNew contents root) root items made a b
       → MakesOne contents root m b c → HoldsOver (IsNew contents root) root (items ++ item ∷ []) after a c
-  over_more items made after m item a b c same is has h new =
+  over_more items made after m item place a b c same own next is has h new =
       subst (λ (i : Item). HoldsOver (IsNew contents root) root (items ++ i ∷ []) after a c) same
       (subst (λ (l : List (Made W)). HoldsOver (IsNew contents root) root (items ++ m.item.now ∷ []) l a c) (sym is)
-      (more_over items made m new.0 a new.1 c (ap (λ (i : Item). has_bytes i.kind) same ∙ has) (over_folders items made a b new.1 h new.3) new.4 new.2 new.5))
+      (more_over items made m new.0 a new.1 c (ap (λ (i : Item). has_bytes i.kind) same ∙ has) (own ∙ next) (over_folders items made a b new.1 h new.3) new.4 new.2 new.5))
 
   -- the files are written
 
@@ -263,6 +325,18 @@ module _ {W : Type 0} (contents : W → Option (List ℕ)) (root : List ℕ) whe
       let more = items_same xs ys (omega (arith, len)) (λ i d low. w (suc i) d (omega (arith, low))) in
       ap (λ (i : Item). i ∷ items_of ys) first.item ∙ ap (λ (l : List Item). x.item.now ∷ l) more
 
+  pub files_written : (old new : List (Made W)) → length new ≡ length old
+      → WritesEach contents old new → files_of new ≡ files_of old
+  files_written [] [] len w = refl
+  files_written [] (y ∷ ys) len w = absurd (omega (arith, len))
+  files_written (x ∷ xs) [] len w = absurd (omega (arith, len))
+  files_written (x ∷ xs) (y ∷ ys) len w =
+      let first : WritesOne contents x y = w 0 x (omega arith) in
+      let more = files_written xs ys (omega (arith, len)) (λ i d low. w (suc i) d (omega (arith, low))) in
+      ap (λ (p : ℕ). (p, y.item.now.path) ∷ files_of ys) first.place
+      ∙ ap (λ (it : Item). (x.place, it.path) ∷ files_of ys) first.item
+      ∙ ap (λ (l : List (ℕ × List ℕ)). (x.place, x.item.now.path) ∷ l) more
+
   pub over_written : (items : List Item) (old new : List (Made W)) (a b : Option Nodes) → length new ≡ length old → WritesEach contents old new
       → HoldsOver (IsNew contents root) root items old a b → HoldsOver (IsWritten contents root) root items new a b
   over_written items old new None None len w h = tt
@@ -270,37 +344,17 @@ module _ {W : Type 0} (contents : W → Option (List ℕ)) (root : List ℕ) whe
   over_written items old new (Some a) None len w h = absurd h
   over_written items old new (Some a) (Some b) len w h =
       let same : items_of new ≡ items_of old = items_same old new len w in
+      let files : files_of new ≡ files_of old = files_written old new len w in
       record {
         rest = λ path none. h.rest path (subst (NoneAt root path) same none);
         apart = subst (HaveOwnPaths root) (sym same) h.apart;
         last = subst (AreLast root items) (sym same) h.last;
+        placed = subst (ArePlaced items) (sym files) h.placed;
+        rise = subst Rise (sym files) h.rise;
         each = written_all b old new len w h.each;
       }
 
   -- one of them is finished
-
-  finished_at : (items : List Item) (m : Made W) (made : List (Made W)) (a b c : Nodes) → Holds (IsWritten contents root) root items (m ∷ made) a b
-      → AreSet (root ++ m.item.now.path) (Some (Bytes m.item.now.bytes)) b c → (path : List ℕ) → NoneAt root path (items_of made)
-      → (same : Bool) → bytes_eq (root ++ m.item.now.path) path ≡ same → IsLeft root path (bytes_put root items path) a c
-  finished_at items m made a b c h set path none true same =
-      let own : List ℕ = root ++ m.item.now.path in
-      let is : own ≡ path = (bytes_eq-Decides own path).0 same in
-      subst (λ (p : List ℕ). IsLeft root p (bytes_put root items p) a c) is
-      (subst (λ (was : Option (List ℕ)). IsLeft root own was a c) (sym h.last.0) (set_own own (Some (Bytes m.item.now.bytes)) b c set))
-  finished_at items m made a b c h set path none false same =
-      let own : List ℕ = root ++ m.item.now.path in
-      let differ = apart_if own path same in
-      folder_left root path (bytes_put root items path) a b c (h.rest path (differ, none))
-      (inl (set_apart own path (Some (Bytes m.item.now.bytes)) b c set differ))
-
-  finished_one : (items : List Item) (m : Made W) (made : List (Made W)) (a b c : Nodes) → Holds (IsWritten contents root) root items (m ∷ made) a b
-      → AreSet (root ++ m.item.now.path) (Some (Bytes m.item.now.bytes)) b c → Holds (IsWritten contents root) root items made a c
-  finished_one items m made a b c h set = record {
-    rest = λ path none. finished_at items m made a b c h set path none (bytes_eq (root ++ m.item.now.path) path) refl;
-    apart = h.apart.1;
-    last = h.last.1;
-    each = written_set (root ++ m.item.now.path) (Some (Bytes m.item.now.bytes)) b c made set h.apart.0 h.each.1;
-  }
 
   bytes_same : (n k : ℕ) (xs ys : List ℕ) → Some (n ∷ xs) ≡ Some (k ∷ ys) → xs ≡ ys
   bytes_same n k xs ys is = cc
@@ -314,24 +368,91 @@ module _ {W : Type 0} (contents : W → Option (List ℕ)) (root : List ℕ) whe
       let file = done (o.1, m.item.now.bytes, o.3, o.4) in
       subst (λ (bytes : List ℕ). AreSet path (Some (Bytes bytes)) b c) (bytes_same file.0 o.1 file.1 m.item.now.bytes (sym file.2 ∙ o.3)) file.3
 
-  pub over_finished : (items : List Item) (m : Made W) (made : List (Made W)) (a b c : Option Nodes) → m.answer ≡ Ok tt
-      → FinishesSome contents (root ++ m.item.now.path) m.file b c → KeepsOutside root b c
-      → HoldsOver (IsWritten contents root) root items (m ∷ made) a b → HoldsOver (IsWritten contents root) root items made a c
-  over_finished items m made None None None ok put kept h = tt
-  over_finished items m made None None (Some c) ok put kept h = absurd kept
-  over_finished items m made None (Some b) c ok put kept h = absurd h
-  over_finished items m made (Some a) None c ok put kept h = absurd h
-  over_finished items m made (Some a) (Some b) None ok put kept h = absurd kept
-  over_finished items m made (Some a) (Some b) (Some c) ok put kept h =
-      finished_one items m made a b c h (finish_sets m b c ok h.each.0 put)
+  closed_at : (items : List Item) (old new : Made W) (done left : List (Made W)) (a b c : Nodes) → new.item.now ≡ old.item.now
+      → FinishesOne contents root old new (Some b) (Some c) → KeepsOthers (root ++ old.item.now.path) (Some b) (Some c)
+      → Closes contents root items done (old ∷ left) a b → (path : List ℕ) → AnsweredAt root path (done ++ new ∷ []) → NoneAt root path (items_of left)
+      → (same : Bool) → bytes_eq (root ++ old.item.now.path) path ≡ same → IsLeft root path (bytes_put root items path) a c
+  closed_at items old new done left a b c item finishes kept h path answered none true same =
+      let own : List ℕ = root ++ old.item.now.path in
+      let is : own ≡ path = (bytes_eq-Decides own path).0 same in
+      let at_new : root ++ new.item.now.path ≡ path = ap (λ (i : Item). root ++ i.path) item ∙ is in
+      let put = finishes (all_end (λ (m : Made W). root ++ m.item.now.path ≡ path → m.answer ≡ Ok tt) done new answered at_new) in
+      let set = finish_sets old b c put.0 h.each.0 put.1 in
+      subst (λ (p : List ℕ). IsLeft root p (bytes_put root items p) a c) is
+      (subst (λ (was : Option (List ℕ)). IsLeft root own was a c) (sym h.last.0) (set_own own (Some (Bytes old.item.now.bytes)) b c set))
+  closed_at items old new done left a b c item finishes kept h path answered none false same =
+      let own : List ℕ = root ++ old.item.now.path in
+      let front = all_front (λ (m : Made W). root ++ m.item.now.path ≡ path → m.answer ≡ Ok tt) done new answered in
+      folder_left root path (bytes_put root items path) a b c (h.rest path front (apart_if own path same, none)) (inl (kept path same))
 
-  -- none is held
+  closed_one : (items : List Item) (old new : Made W) (done left : List (Made W)) (a b c : Nodes) → new.item.now ≡ old.item.now
+      → FinishesOne contents root old new (Some b) (Some c) → KeepsOthers (root ++ old.item.now.path) (Some b) (Some c)
+      → Closes contents root items done (old ∷ left) a b → Closes contents root items (done ++ new ∷ []) left a c
+  closed_one items old new done left a b c item finishes kept h = record {
+    rest = λ path answered none.
+        closed_at items old new done left a b c item finishes kept h path answered none (bytes_eq (root ++ old.item.now.path) path) refl;
+    apart = h.apart.1;
+    last = h.last.1;
+    each = written_kept (root ++ old.item.now.path) b c left kept h.apart.0 h.each.1;
+  }
 
-  pub over_end : (items : List Item) (a b : Option Nodes) → HoldsOver (IsWritten contents root) root items [] a b → LeavesFiles root items a b
-  over_end items None None h = tt
-  over_end items None (Some b) h = absurd h
-  over_end items (Some a) None h = absurd h
-  over_end items (Some a) (Some b) h = λ path. h.rest path tt
+  closed_over : (items : List Item) (old new : Made W) (done left : List (Made W)) (a b c : Option Nodes) → new.item.now ≡ old.item.now
+      → FinishesOne contents root old new b c → KeepsOthers (root ++ old.item.now.path) b c
+      → ClosesOver contents root items done (old ∷ left) a b → ClosesOver contents root items (done ++ new ∷ []) left a c
+  closed_over items old new done left None None None item finishes kept h = tt
+  closed_over items old new done left None None (Some c) item finishes kept h = absurd kept
+  closed_over items old new done left None (Some b) c item finishes kept h = absurd h
+  closed_over items old new done left (Some a) None c item finishes kept h = absurd h
+  closed_over items old new done left (Some a) (Some b) None item finishes kept h = absurd kept
+  closed_over items old new done left (Some a) (Some b) (Some c) item finishes kept h =
+      closed_one items old new done left a b c item finishes kept h
+
+  pub close_begin : (items : List Item) (made : List (Made W)) (a b : Option Nodes) → HoldsOver (IsWritten contents root) root items made a b
+      → ClosesOver contents root items (take 0 made) (drop 0 made) a b
+  close_begin items made None None h = tt
+  close_begin items made None (Some b) h = absurd h
+  close_begin items made (Some a) None h = absurd h
+  close_begin items made (Some a) (Some b) h =
+      record { rest = λ path answered none. h.rest path none; apart = h.apart; last = h.last; each = h.each }
+
+  -- a loop that finishes them one by one
+  pub close_step : (items : List Item) (made : List (Made W)) (i : ℕ) (old new : Made W) (nodes b c : Option Nodes) → i < length made
+      → old ≡ get_or made i old → new.item.now ≡ old.item.now → FinishesOne contents root old new b c
+      → KeepsOthers (root ++ old.item.now.path) b c → ClosesOver contents root items (take i made) (drop i made) nodes b
+      → ClosesOver contents root items (take (i + 1) (set made i new)) (drop (i + 1) (set made i new)) nodes c
+  close_step items made i old new nodes b c low is item finishes kept h =
+      let left : drop i made ≡ old ∷ drop (i + 1) made = drop_more made i old low ∙ ap (λ (o : Made W). o ∷ drop (i + 1) made) (sym is) in
+      let now : ClosesOver contents root items (take i made) (old ∷ drop (i + 1) made) nodes b =
+      subst (λ (l : List (Made W)). ClosesOver contents root items (take i made) l nodes b) left h in
+      subst (λ (l : List (Made W)). ClosesOver contents root items (take (i + 1) (set made i new)) l nodes c) (sym (drop-set-lt (i + 1) made i new (omega arith)))
+      (subst (λ (l : List (Made W)). ClosesOver contents root items l (drop (i + 1) made) nodes c) (sym (take_more_set made i new low))
+      (closed_over items old new (take i made) (drop (i + 1) made) nodes b c item finishes kept now))
+
+  closed_end : (items : List Item) (made : List (Made W)) (a c : Option Nodes) → ClosesOver contents root items made [] a c → LeavesAnswered root items made a c
+  closed_end items made None None h = tt
+  closed_end items made None (Some c) h = absurd h
+  closed_end items made (Some a) None h = absurd h
+  closed_end items made (Some a) (Some c) h = λ path answered. h.rest path answered tt
+
+  pub close_end : (items : List Item) (made : List (Made W)) (i : ℕ) (nodes c : Option Nodes) → length made ≤ i
+      → ClosesOver contents root items (take i made) (drop i made) nodes c → LeavesAnswered root items made nodes c
+  close_end items made i nodes c past h =
+      closed_end items made nodes c
+      (subst (λ (l : List (Made W)). ClosesOver contents root items made l nodes c) (drop_all i made past)
+      (subst (λ (l : List (Made W)). ClosesOver contents root items l (drop i made) nodes c) (take_all i made past) h))
+
+  -- all of them have their answers
+
+  answered_at : (path : List ℕ) (made : List (Made W)) → AreAnswered made → AnsweredAt root path made
+  answered_at path [] answered = tt
+  answered_at path (m ∷ made) answered = ((λ is. answered.0), answered_at path made answered.1)
+
+  pub all_left : (items : List Item) (made : List (Made W)) (a c : Option Nodes) → AreAnswered made → LeavesAnswered root items made a c
+      → LeavesFiles root items a c
+  all_left items made None None answered left = tt
+  all_left items made None (Some c) answered left = absurd left
+  all_left items made (Some a) None answered left = absurd left
+  all_left items made (Some a) (Some c) answered left = λ path. left path (answered_at path made answered)
 
   pub over_again : (items : List Item) (made : List (Made W)) (a b : Option Nodes) → made ≡ [] → LeavesFiles root items a b
       → HoldsOver (IsNew contents root) root items made a b
@@ -340,30 +461,7 @@ module _ {W : Type 0} (contents : W → Option (List ℕ)) (root : List ℕ) whe
   over_again items made (Some a) None none h = absurd h
   over_again items made (Some a) (Some b) none h =
       subst (λ (l : List (Made W)). Holds (IsNew contents root) root items l a b) (sym none)
-      (record { rest = λ path free. h path; apart = tt; last = tt; each = tt })
-
-  -- a loop that finishes them one by one: what is held is what it has not reached
-
-  pub held_step : (items : List Item) (made : List (Made W)) (i : ℕ) (old new : Made W) (nodes b c : Option Nodes) → i < length made
-      → old ≡ get_or made i old → FinishesOne contents root old new b c → KeepsOutside root b c
-      → (AreAnswered (take i made) → HoldsOver (IsWritten contents root) root items (drop i made) nodes b)
-      → AreAnswered (take (i + 1) (set made i new)) → HoldsOver (IsWritten contents root) root items (drop (i + 1) (set made i new)) nodes c
-  held_step items made i old new nodes b c low is finishes kept held answered =
-      let away = subst (λ (l : List (Made W)). AreAnswered l) (take_more_set made i new low) answered in
-      let front = all_front (λ (m : Made W). m.answer ≡ Ok tt) (take i made) new away in
-      let done = finishes (all_end (λ (m : Made W). m.answer ≡ Ok tt) (take i made) new away) in
-      let left : drop i made ≡ old ∷ drop (i + 1) made = drop_more made i old low ∙ ap (λ (o : Made W). o ∷ drop (i + 1) made) (sym is) in
-      let now : HoldsOver (IsWritten contents root) root items (old ∷ drop (i + 1) made) nodes b =
-      subst (λ (l : List (Made W)). HoldsOver (IsWritten contents root) root items l nodes b) left (held front) in
-      subst (λ (l : List (Made W)). HoldsOver (IsWritten contents root) root items l nodes c) (sym (drop-set-lt (i + 1) made i new (omega arith)))
-      (over_finished items old (drop (i + 1) made) nodes b c done.0 done.1 kept now)
-
-  pub held_end : (items : List Item) (made : List (Made W)) (i : ℕ) (nodes c : Option Nodes) → length made ≤ i
-      → (AreAnswered (take i made) → HoldsOver (IsWritten contents root) root items (drop i made) nodes c)
-      → AreAnswered made → LeavesFiles root items nodes c
-  held_end items made i nodes c past held answered =
-      over_end items nodes c (subst (λ (l : List (Made W)). HoldsOver (IsWritten contents root) root items l nodes c) (drop_all i made past)
-      (held (subst (λ (l : List (Made W)). AreAnswered l) (sym (take_all i made past)) answered)))
+      (record { rest = λ path free. h path; apart = tt; last = tt; placed = tt; rise = tt; each = tt })
 
 -- nothing was put yet
 pub leaves_nothing : (root : List ℕ) (nodes : Option Nodes) → LeavesFiles root [] nodes nodes

@@ -2,6 +2,7 @@ pub mod BelowLaws
 pub mod WindowLaws
 pub mod HeldLaws
 pub mod RemovalLaws
+pub mod StopLaws
 pub mod EmptyLaws
 pub mod ThereLaws
 pub mod TwoLaws

@@ -1,19 +1,25 @@
 -- Files that are put, or are there already.
-use Rattle.std.proofs.Common.{◌≡◌, ℕ, ◌⊎◌, Bool, true, false, cond, option_map, Option, Some, None, Result, Ok, Err, IfOk, OnOk, List, [], ◌∷◌, ◌++◌, length, inl, inr, refl, ap, sym, subst, ◌∙◌}
-use Rattle.std.specs.Prelude.{bytes_eq}
+use Rattle.std.proofs.Common.{◌≡◌, ℕ, suc, ◌+◌, ◌⊎◌, Bool, true, false, cond, option_map, Option, Some, None, Result, Ok, Err, IfErr, IfOk, OnOk, List, [], ◌∷◌, ◌++◌, length, inl, inr, refl, ap, sym, subst, ◌∙◌, arith, append_assoc, length-append}
+use Rattle.std.specs.Prelude.{◌&&◌, bytes_eq, ⊤}
+use Rattle.std.specs.List.{AllByRecursion}
 use Rattle.std.proofs.lemmas.Slice.Eq.{bytes_eq-Decides}
 use Rattle.md5.specs.Md5.{md5}
+use Rattle.br_model.specs.Delivery.{Stop}
 use Rattle.br_model.specs.File.{Item, has_bytes}
 use Rattle.br_fs.specs.Making.{Nodes, AreSet, Bytes, IsFileOrFree, kind_of, node_at}
 use Rattle.br_fs.specs.Alike.{IsAlike, IsAlikeAt}
 use Rattle.br_sink_folder.specs.Below.{AddsFolders, IsNewFolder, KeepsOutside}
 use Rattle.br_sink_folder.specs.FolderSink.{PutsItem}
-use Rattle.br_sink_folder.specs.Held.{LeavesFiles}
+use Rattle.br_sink_folder.specs.Held.{LeavesFiles, is_put_at}
+use Rattle.br_sink_folder.specs.Removed.{ChangesOne}
+use Rattle.br_sink_folder.specs.Stopped.{LeavesAtStop}
 use Rattle.br_sink_folder.specs.There.{IsMissing, IsThere}
 use Rattle.br_sink_folder.proofs.BelowLaws.{adds_more, outside_added, outside_more}
-use Rattle.br_sink_folder.proofs.HeldLaws.{leaves_item, leaves_nothing}
+use Rattle.br_sink_folder.proofs.HeldLaws.{all_end, all_front, leaves_item, leaves_nothing}
+use Rattle.br_sink_folder.proofs.RemovalLaws.{changes_added, changes_more}
+use Rattle.br_sink_folder.proofs.StopLaws.{before_more, stops_alone}
 use Rattle.br_sink.specs.FileParts.{AreAlike, with_bytes}
-use Rattle.br_sink_folder.specs.Resuming.{AreLike, IsLike, LeavesLike, PutsLike}
+use Rattle.br_sink_folder.specs.Resuming.{AreLike, IsLike, KeepsWhole, LeavesLike, LeavesLikeAtStop, PutsLike}
 
 -- a file is like itself
 itself : (item : Item) → IsLike item item
@@ -51,6 +57,14 @@ pub put_after : {A E : Type 0} (result : Result A E) (root of : List ℕ) (item 
     → AddsFolders root a b → OnOk result (PutsItem of item b c) → OnOk result (PutsLike root item a c)
 put_after (Ok x) root of item a b c is added put = puts_after root item a b c added (subst (λ (r : List ℕ). PutsItem r item b c) is put)
 put_after (Err e) root of item a b c is added put = tt
+
+pub changes_only : (root path : List ℕ) (a b : Option Nodes) → AddsFolders root a b → ChangesOne root path a b
+changes_only root path a b added = changes_added root path a b added
+
+pub changes_after : (root of own : List ℕ) (a b c : Option Nodes) → of ≡ root → AddsFolders root a b → ChangesOne of (of ++ own) b c
+    → ChangesOne root (root ++ own) a c
+changes_after root of own a b c is added change =
+    changes_more root (root ++ own) a b c (changes_added root (root ++ own) a b added) (subst (λ (r : List ℕ). ChangesOne r (r ++ own) b c) is change)
 
 -- a file that was there is not missing
 
@@ -135,3 +149,77 @@ leaves_more root items item a b c (others, like, left) (other, is, put) folders 
   like_more others items other item like is,
   leaves_item root others other a b c left put (λ none. folders (ap has_bytes (sym is.kind) ∙ none)),
 )
+
+-- a stop
+
+pub stops_same : {A : Type 0} (result : Result A Stop) (root : List ℕ) (items : List Item) (a b : Option Nodes)
+    → IfErr result (LeavesAtStop root items a b) → IfErr result (LeavesLikeAtStop root items a b)
+stops_same (Ok x) root items a b left = tt
+stops_same (Err stop) root items a b left = (items, all_themselves items, left)
+
+like_long : (others items : List Item) → AreLike others items → length others ≡ length items
+like_long [] [] like = refl
+like_long [] (x ∷ items) like = absurd like
+like_long (o ∷ others) [] like = absurd like
+like_long (o ∷ others) (x ∷ items) like = ap suc (like_long others items like.1)
+
+like_rest : (others items rest : List Item) → AreLike others items → AreLike (others ++ rest) (items ++ rest)
+like_rest [] [] rest like = all_themselves rest
+like_rest [] (x ∷ items) rest like = absurd like
+like_rest (o ∷ others) [] rest like = absurd like
+like_rest (o ∷ others) (x ∷ items) rest like = (like.0, like_rest others items rest like.1)
+
+pub stops_like : (root : List ℕ) (all before rest : List Item) (item : Item) (stop : Stop) (a b c : Option Nodes) → all ≡ before ++ item ∷ rest
+    → stop.done ≡ length before → LeavesLike root before a b → ChangesOne root (root ++ item.path) b c → LeavesLikeAtStop root all a c stop
+stops_like root all before rest item stop a b c is at (others, like, left) change =
+    let done : stop.done ≡ length others = at ∙ sym (like_long others before like) in
+    let one = stops_alone root others item stop.done a b c done left change in
+    let longer : length (others ++ item ∷ []) ≡ length others + 1 = length-append others (item ∷ []) in
+    let joined : (others ++ item ∷ []) ++ rest ≡ others ++ item ∷ rest = append_assoc others (item ∷ []) rest in (
+      others ++ item ∷ rest,
+      subst (AreLike (others ++ item ∷ rest)) (sym is) (like_rest others before (item ∷ rest) like),
+      subst (λ (l : List Item). LeavesAtStop root l a c stop) joined
+          (before_more root (others ++ item ∷ []) rest stop.done a c (omega (arith, done, longer)) one),
+    )
+
+-- files that are whole stay so
+
+pub keeps_nothing : (root : List ℕ) (nodes : Option Nodes) → KeepsWhole root [] nodes nodes
+keeps_nothing root None = tt
+keeps_nothing root (Some a) = λ path bytes is alike. is
+
+whole_one : (root : List ℕ) (item : Item) (b c : Nodes) (path bytes : List ℕ)
+    → (has_bytes item.kind ≡ true → IsThere root item (Some b) → AddsFolders root (Some b) (Some c))
+    → (has_bytes item.kind ≡ false → AddsFolders root (Some b) (Some c)) → ChangesOne root (root ++ item.path) (Some b) (Some c)
+    → node_at b path ≡ Some (Bytes bytes) → (is_put_at root path item ≡ true → IsAlike (length item.bytes) (md5 item.bytes) bytes)
+    → (same has : Bool) → bytes_eq (root ++ item.path) path ≡ same → has_bytes item.kind ≡ has → node_at c path ≡ Some (Bytes bytes)
+whole_one root item b c path bytes stays folders change is alike false has apart has_is = still_there root path bytes b c is (change path apart)
+whole_one root item b c path bytes stays folders change is alike true false own_is none = still_there root path bytes b c is (folders none path)
+whole_one root item b c path bytes stays folders change is alike true true own_is has_is =
+    let own : root ++ item.path ≡ path = (bytes_eq-Decides (root ++ item.path) path).0 own_is in
+    let put : is_put_at root path item ≡ true = ap (λ (t : Bool). t && has_bytes item.kind) own_is ∙ has_is in
+    let there : IsThere root item (Some b) = (bytes, ap (node_at b) own ∙ is, alike put) in
+    still_there root path bytes b c is (stays has_is there path)
+
+pub keeps_more : (root : List ℕ) (items : List Item) (item : Item) (a b c : Option Nodes) → KeepsWhole root items a b
+    → (has_bytes item.kind ≡ true → IsThere root item b → AddsFolders root b c)
+    → (has_bytes item.kind ≡ false → AddsFolders root b c) → ChangesOne root (root ++ item.path) b c → KeepsWhole root (items ++ item ∷ []) a c
+keeps_more root items item None None None kept stays folders change = tt
+keeps_more root items item None None (Some c) kept stays folders change = absurd change
+keeps_more root items item None (Some b) c kept stays folders change = absurd kept
+keeps_more root items item (Some a) None c kept stays folders change = absurd kept
+keeps_more root items item (Some a) (Some b) None kept stays folders change = absurd change
+keeps_more root items item (Some a) (Some b) (Some c) kept stays folders change = λ path bytes is alike.
+    let P : Item → Type 0 = λ i. is_put_at root path i ≡ true → IsAlike (length i.bytes) (md5 i.bytes) bytes in
+    whole_one root item b c path bytes stays folders change (kept path bytes is (all_front P items item alike)) (all_end P items item alike)
+    (bytes_eq (root ++ item.path) path) (has_bytes item.kind) refl refl
+
+pub keeps_rest : (root : List ℕ) (items rest : List Item) (a b : Option Nodes) → KeepsWhole root items a b → KeepsWhole root (items ++ rest) a b
+keeps_rest root items rest None None kept = tt
+keeps_rest root items rest None (Some b) kept = absurd kept
+keeps_rest root items rest (Some a) None kept = absurd kept
+keeps_rest root items rest (Some a) (Some b) kept = λ path bytes is alike. kept path bytes is (front (λ (i : Item). is_put_at root path i ≡ true → IsAlike (length i.bytes) (md5 i.bytes) bytes) items alike)
+  where
+    front : (P : Item → Type 0) (xs : List Item) → AllByRecursion P (xs ++ rest) → AllByRecursion P xs
+    front P [] all = tt
+    front P (x ∷ xs) all = (all.0, front P xs all.1)

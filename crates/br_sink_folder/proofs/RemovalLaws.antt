@@ -10,7 +10,7 @@ use Rattle.br_sink_folder.specs.Below.{AddsFolders, IsNewFolder, MakesNew}
 use Rattle.br_sink_folder.specs.Held.{WritesEach, WritesOne}
 use Rattle.br_sink_folder.specs.Removed.{AreRemoved, ChangesOne, GivesUp, HasNoFile, IsRemoved, LacksFile, MakesNoFile, MakesNone, files_of}
 use Rattle.br_sink_folder.specs.declared.window.Made.{Made}
-use Rattle.br_sink_folder.proofs.BelowLaws.{adds_both, adds_same}
+use Rattle.br_sink_folder.proofs.BelowLaws.{adds_both, adds_same, keeps_more}
 use Rattle.br_sink_folder.proofs.HeldLaws.{all_more, set_own}
 
 -- a path without a file still has none
@@ -91,6 +91,25 @@ changes_more root path (Some a) (Some b) (Some c) f g = λ other apart. adds_bot
 pub changes_then : (root path : List ℕ) (a b c : Option Nodes) → AddsFolders root a b → KeepsOthers path b c → ChangesOne root path a c
 changes_then root path a b c added kept = changes_more root path a b c (changes_added root path a b added) (changes_kept root path b c kept)
 
+pub changes_same : (root path : List ℕ) (a b : Option Nodes) → b ≡ a → ChangesOne root path a b
+changes_same root path a b same = changes_added root path a b (adds_same root a b same)
+
+-- a file at a path is made and written, or removed again
+
+pub file_changes : (root path whole : List ℕ) (a b c : Option Nodes) → whole ≡ root ++ path → AddsFolders root a b → KeepsOthers whole b c
+    → ChangesOne root (root ++ path) a c
+file_changes root path whole a b c is added kept = rw is at (changes_then root whole a b c added kept)
+
+pub file_changes_twice : (root path whole : List ℕ) (a b c d : Option Nodes) → whole ≡ root ++ path → AddsFolders root a b
+    → KeepsOthers whole b c → KeepsOthers whole c d → ChangesOne root (root ++ path) a d
+file_changes_twice root path whole a b c d is added kept more =
+    rw is at (changes_then root whole a b d added (keeps_more whole b c d kept more))
+
+pub file_is_undone : (root path whole : List ℕ) (a b c d e : Option Nodes) → whole ≡ root ++ path → AddsFolders root a b
+    → KeepsOthers whole b c → KeepsOthers whole c d → ChangesOne root whole d e → ChangesOne root (root ++ path) a e
+file_is_undone root path whole a b c d e is added kept more last =
+    rw is at (changes_more root whole a d e (changes_then root whole a b d added (keeps_more whole b c d kept more)) last)
+
 -- a file that could not be made or written
 
 pub unmade_same : (path : List ℕ) (a b : Option Nodes) → b ≡ a → MakesNone path a b
@@ -160,15 +179,3 @@ files_set made i old new is place item =
     ap (λ (p : ℕ). (p, new.item.now.path)) place ∙ ap (λ (it : Item). (old.place, it.path)) item in
     map-set_same (λ (m : Made _). (m.place, m.item.now.path)) made i new old
     (same ∙ ap (λ (m : Made _). (m.place, m.item.now.path)) is)
-
-pub files_written : {W : Type 0} (contents : W → Option (List ℕ)) (old new : List (Made W)) → length new ≡ length old
-    → WritesEach contents old new → files_of new ≡ files_of old
-files_written contents [] [] len w = refl
-files_written contents [] (y ∷ ys) len w = absurd (omega (arith, len))
-files_written contents (x ∷ xs) [] len w = absurd (omega (arith, len))
-files_written contents (x ∷ xs) (y ∷ ys) len w =
-    let first : WritesOne contents x y = w 0 x (omega arith) in
-    let more = files_written contents xs ys (omega (arith, len)) (λ i d low. w (suc i) d (omega (arith, low))) in
-    ap (λ (p : ℕ). (p, y.item.now.path) ∷ files_of ys) first.place
-    ∙ ap (λ (it : Item). (x.place, it.path) ∷ files_of ys) first.item
-    ∙ ap (λ (l : List (ℕ × List ℕ)). (x.place, x.item.now.path) ∷ l) more

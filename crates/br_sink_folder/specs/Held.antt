@@ -1,6 +1,6 @@
 -- What a delivery of several files leaves below its folder, also while some of the files are held
 -- open.
-use Rattle.std.specs.Prelude.{◌≡◌, ℕ, ◌<◌, ◌⊎◌, Bool, ◌&&◌, if◌then◌else◌, List, [], ◌∷◌, ◌++◌, length, map, fold, slice_index_or}
+use Rattle.std.specs.Prelude.{◌≡◌, ℕ, ◌<◌, ◌⊎◌, Bool, ◌&&◌, if◌then◌else◌, List, [], ◌∷◌, ◌++◌, length, map, option_map, fold, slice_get, slice_index_or}
 use Rattle.std.specs.Prelude.{bytes_eq, true, Option, Some, None, Result, Ok, OnErr, OnOk, ⊤}
 use Rattle.std.specs.List.{AllByRecursion}
 use Rattle.std.specs.Io.KnownBytes.{Appends}
@@ -8,6 +8,7 @@ use Rattle.br_model.specs.File.{Item, has_bytes}
 use Rattle.br_data.specs.BodyWritten.{AppendsFront}
 use Rattle.br_fs.specs.Making.{Nodes, Bytes, Opened, IsFinished, IsFree, MakesFile, node_at}
 use Rattle.br_sink_folder.specs.Below.{AddsFolders, IsNewFolder}
+use Rattle.br_sink_folder.specs.Removed.{files_of}
 use Rattle.br_sink_folder.specs.declared.window.Made.{Made}
 
 -- a file with bytes is put at this path
@@ -66,12 +67,27 @@ IsNew contents root nodes m = IsOpenWith contents root [] nodes m
 abbrev pub IsWritten : {W : Type 0} → (W → Option (List ℕ)) → List ℕ → Nodes → Made W → Type 0
 IsWritten contents root nodes m = m.answer ≡ Ok tt → IsOpenWith contents root m.item.now.bytes nodes m
 
+-- the path of the item at a place
+abbrev pub path_at : List Item → ℕ → Option (List ℕ)
+path_at items place = option_map (λ (i : Item). i.path) (slice_get items place)
+
+-- each of these places and paths is that of an item
+abbrev pub ArePlaced : List Item → List (ℕ × List ℕ) → Type 0
+ArePlaced items files = AllByRecursion (λ (file : ℕ × List ℕ). path_at items file.0 ≡ Some file.1) files
+
+-- the places rise
+abbrev pub Rise : List (ℕ × List ℕ) → Type 0
+Rise [] = ⊤
+Rise (file ∷ files) = AllByRecursion (λ (later : ℕ × List ℕ). file.0 < later.0) files × Rise files
+
 -- These items were put, except for the files that are held open.
 pub record Holds {W : Type 0} (P : Nodes → Made W → Type 0) (root : List ℕ) (items : List Item)
     (held : List (Made W)) (earlier later : Nodes) : Type 0 where
   pub rest : (path : List ℕ) → NoneAt root path (items_of held) → IsLeft root path (bytes_put root items path) earlier later
   pub apart : HaveOwnPaths root (items_of held)
   pub last : AreLast root items (items_of held)
+  pub placed : ArePlaced items (files_of held)
+  pub rise : Rise (files_of held)
   pub each : AllByRecursion (P later) held
 
 -- If the nodes are known, this holds of them.
@@ -90,18 +106,18 @@ HoldsStill contents root held left before after result =
     (items : List Item) (nodes : Option Nodes) → HoldsOver (IsNew contents root) root items held nodes before
     → OnOk result (HoldsOver (IsNew contents root) root items left nodes after)
 
--- and so is one more item
-abbrev pub HoldsMore : {W A E : Type 0} → (W → Option (List ℕ)) → List ℕ → Item → List (Made W) → List (Made W) → Option Nodes → Option Nodes
+-- and so is one more item, which has the next place
+abbrev pub HoldsMore : {W A E : Type 0} → (W → Option (List ℕ)) → List ℕ → Item → ℕ → List (Made W) → List (Made W) → Option Nodes → Option Nodes
     → Result A E → Type 0
-HoldsMore contents root item held left before after result =
-    (items : List Item) (nodes : Option Nodes) → HoldsOver (IsNew contents root) root items held nodes before
+HoldsMore contents root item place held left before after result =
+    (items : List Item) (nodes : Option Nodes) → place ≡ length items → HoldsOver (IsNew contents root) root items held nodes before
     → OnOk result (HoldsOver (IsNew contents root) root (items ++ item ∷ []) left nodes after)
 
 -- and so is one more file with bytes
-abbrev pub HoldsFile : {W A E : Type 0} → (W → Option (List ℕ)) → List ℕ → Item → List (Made W) → List (Made W) → Option Nodes → Option Nodes
+abbrev pub HoldsFile : {W A E : Type 0} → (W → Option (List ℕ)) → List ℕ → Item → ℕ → List (Made W) → List (Made W) → Option Nodes → Option Nodes
     → Result A E → Type 0
-HoldsFile contents root item held left before after result =
-    (items : List Item) (nodes : Option Nodes) → has_bytes item.kind ≡ true → HoldsOver (IsNew contents root) root items held nodes before
+HoldsFile contents root item place held left before after result =
+    (items : List Item) (nodes : Option Nodes) → has_bytes item.kind ≡ true → place ≡ length items → HoldsOver (IsNew contents root) root items held nodes before
     → OnOk result (HoldsOver (IsNew contents root) root (items ++ item ∷ []) left nodes after)
 
 -- if items were put, except for the files that are held open, and this holds of each of these, all
@@ -162,9 +178,22 @@ FinishesOne contents root old new earlier later =
 abbrev pub AreAnswered : {W : Type 0} → List (Made W) → Type 0
 AreAnswered made = AllByRecursion (λ (m : Made _). m.answer ≡ Ok tt) made
 
--- if items were put, except for the written files that are held open, all are left, unless the
--- result of one is a fault
+-- the results of the files at this path are no faults
+abbrev pub AnsweredAt : {W : Type 0} → List ℕ → List ℕ → List (Made W) → Type 0
+AnsweredAt root path made = AllByRecursion (λ (m : Made _). root ++ m.item.now.path ≡ path → m.answer ≡ Ok tt) made
+
+-- If the nodes are known, each path is as these items leave it, unless the result of a file there is
+-- a fault.
+abbrev pub LeavesAnswered : {W : Type 0} → List ℕ → List Item → List (Made W) → Option Nodes → Option Nodes → Type 0
+LeavesAnswered root items made None None = ⊤
+LeavesAnswered root items made (Some earlier) (Some later) =
+    (path : List ℕ) → AnsweredAt root path made → IsLeft root path (bytes_put root items path) earlier later
+LeavesAnswered root items made None (Some later) = ⊥
+LeavesAnswered root items made (Some earlier) None = ⊥
+
+-- if items were put, except for the written files that are held open, all are left, except for those
+-- whose result is a fault
 abbrev pub FinishesHeld : {W : Type 0} → (W → Option (List ℕ)) → List ℕ → List (Made W) → List (Made W) → Option Nodes → Option Nodes → Type 0
 FinishesHeld contents root old new before after =
     (items : List Item) (nodes : Option Nodes) → HoldsOver (IsWritten contents root) root items old nodes before
-    → AreAnswered new → LeavesFiles root items nodes after
+    → LeavesAnswered root items new nodes after

@@ -4,6 +4,7 @@ pub mod FolderSink
 pub mod Window
 pub mod Held
 pub mod Removed
+pub mod Stopped
 pub mod There
 pub mod TwoFiles
 pub mod Resuming

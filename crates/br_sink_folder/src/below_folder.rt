@@ -1,6 +1,9 @@
 //! Files below a folder, and the folders on their ways.
 ghost use Rattle.std.specs.Prelude.{◌≡◌, ℕ, ◌<◌, List, length, ◌++◌, None, OnOk, OnErr, IfOk, string_bytes};
+ghost use Rattle.std.specs.IoError.{error_kind};
+ghost use Rattle.std.specs.declared.io.ErrorKind.TheVariants.{OutOfMemory};
 ghost use Rattle.br_fs.specs.Making.{IsBelow, IsFileOrFree, IsFinished, IsFree, KeepsOthers, MakesFile, Sets};
+ghost use Rattle.br_sink.specs.declared.fault.SinkFault.TheVariants.{Memory, Fault};
 ghost use Rattle.br_sink_folder.specs.Below.{AddsFolders, MakesNew, WritesNew};
 ghost use Rattle.br_sink_folder.specs.Fault.{sink_fault};
 ghost use Rattle.br_sink_folder.specs.Removed.{HasNoFile, MakesNoFile, MakesNone};
@@ -24,8 +27,11 @@ pub(crate) fn fault_of(fault: DiskFault) -> SinkFault
     }
 }
 
-/// Returns the sink's fault for a fault of a write.
-pub(crate) fn write_fault(error: io::Error) -> SinkFault {
+/// Returns the sink's fault for a fault of a write: `Memory` if memory ran out, else `Fault`.
+pub(crate) fn write_fault(error: io::Error) -> SinkFault
+    ensures memory { result ≡ Memory → error_kind error ≡ OutOfMemory }
+    ensures fault { result ≡ Fault → error_kind error ≡ OutOfMemory → ⊥ }
+{
     match error.kind() {
         ErrorKind::OutOfMemory => SinkFault::Memory,
         _ => SinkFault::Fault,

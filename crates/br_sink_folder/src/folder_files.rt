@@ -7,6 +7,7 @@ ghost use Rattle.br_sink.specs.Delivery.{IsStopBelow, items_in};
 ghost use Rattle.br_sink_folder.specs.Below.{AddsFolders, KeepsOutside};
 ghost use Rattle.br_sink_folder.specs.FolderSink.{HasName, HasText, is_on_disk};
 ghost use Rattle.br_sink_folder.specs.Held.{HoldsFile, HoldsMore, IsNew, LeavesFiles, LeavesMore, MakesOne};
+ghost use Rattle.br_sink_folder.specs.Stopped.{LeavesAtStop, StopsFile, StopsMore};
 ghost use Rattle.br_sink_folder.specs.Window.{AreBelow};
 
 use crate::below_folder::make_file;
@@ -60,7 +61,7 @@ fn hold<'i, W: Write + Drop, M: FileMaker<New = W>>(
     requires { length window.old.made.items < 16 }
     ensures most { length window.new.made.items ≤ 16 }
     ensures below { (n : ℕ) → AreBelow n window.old.made.items → place < n → AreBelow n window.new.made.items }
-    ensures held { HoldsFile W.contents root.now item.now window.old.made.items window.new.made.items (M.nodes maker.old)
+    ensures held { HoldsFile W.contents root.now item.now place window.old.made.items window.new.made.items (M.nodes maker.old)
         (M.nodes maker.new) result }
     ensures added { OnErr result (AddsFolders root.now (M.nodes maker.old) (M.nodes maker.new)) }
     ensures kept { OnErr result (window.new.made.items ≡ window.old.made.items) }
@@ -89,6 +90,8 @@ fn put_alone<'i, W: Write + Drop, M: ManyWriter<New = W>>(
     ensures stopped { (n : ℕ) → AreBelow n window.old.made.items → place < n → IfErr result (IsStopBelow n) }
     ensures left { LeavesMore (IsNew W.contents root.now) root.now item.now window.old.made.items (M.nodes maker.old)
         (M.nodes maker.new) result }
+    ensures before { StopsMore (IsNew W.contents root.now) root.now item.now place window.old.made.items (M.nodes maker.old)
+        (M.nodes maker.new) result }
     ensures empty { window.new.made.items ≡ [] }
     ensures text { OnOk result (is_on_disk item.now.kind ≡ true → IsUtf8 item.now.path) }
     ensures name { OnOk result (has_bytes item.now.kind ≡ true → is_directory item.now.path ≡ false) }
@@ -115,7 +118,9 @@ fn put_file<'i, W: Write + Drop, M: ManyWriter<New = W>>(
     ensures few { OnOk result (length window.new.made.items < 16) }
     ensures stopped { (n : ℕ) → AreBelow n window.old.made.items → place < n → IfErr result (IsStopBelow n) }
     ensures below { (n : ℕ) → AreBelow n window.old.made.items → place < n → OnOk result (AreBelow n window.new.made.items) }
-    ensures held { HoldsFile W.contents root.now item.now window.old.made.items window.new.made.items (M.nodes maker.old)
+    ensures held { HoldsFile W.contents root.now item.now place window.old.made.items window.new.made.items (M.nodes maker.old)
+        (M.nodes maker.new) result }
+    ensures before { StopsFile (IsNew W.contents root.now) root.now item.now place window.old.made.items (M.nodes maker.old)
         (M.nodes maker.new) result }
     ensures text { OnOk result (is_on_disk item.now.kind ≡ true → IsUtf8 item.now.path) }
     ensures name { OnOk result (has_bytes item.now.kind ≡ true → is_directory item.now.path ≡ false) }
@@ -141,7 +146,9 @@ fn put_next<'i, W: Write + Drop, M: ManyWriter<New = W>>(
     ensures few { OnOk result (length window.new.made.items < 16) }
     ensures stopped { (n : ℕ) → AreBelow n window.old.made.items → place < n → IfErr result (IsStopBelow n) }
     ensures below { (n : ℕ) → AreBelow n window.old.made.items → place < n → OnOk result (AreBelow n window.new.made.items) }
-    ensures held { HoldsMore W.contents root.now item.now window.old.made.items window.new.made.items (M.nodes maker.old)
+    ensures held { HoldsMore W.contents root.now item.now place window.old.made.items window.new.made.items (M.nodes maker.old)
+        (M.nodes maker.new) result }
+    ensures before { StopsMore (IsNew W.contents root.now) root.now item.now place window.old.made.items (M.nodes maker.old)
         (M.nodes maker.new) result }
     ensures text { OnOk result (is_on_disk item.now.kind ≡ true → IsUtf8 item.now.path) }
     ensures name { OnOk result (has_bytes item.now.kind ≡ true → is_directory item.now.path ≡ false) }
@@ -167,6 +174,7 @@ pub(crate) fn put_each<W: Write + Drop, M: ManyWriter<New = W>>(
     ensures text { OnOk result (All HasText (items_in outcomes.now)) }
     ensures name { OnOk result (All HasName (items_in outcomes.now)) }
     ensures files { OnOk result (LeavesFiles root.now (items_in outcomes.now) (M.nodes maker.old) (M.nodes maker.new)) }
+    ensures before { IfErr result (LeavesAtStop root.now (items_in outcomes.now) (M.nodes maker.old) (M.nodes maker.new)) }
     ensures outside { KeepsOutside root.now (M.nodes maker.old) (M.nodes maker.new) }
 {
     let mut window = Window::new(alloc);

@@ -36,6 +36,7 @@ pub(crate) trait Remover: FileMaker {
         ensures removed { OnOk result (HasNoFile (root.now ++ item.now.path) (Self.nodes self.new)) }
         ensures refused { OnErr result (is_refused (root.now ++ item.now.path)) }
         ensures others { MakesNoFile (Self.nodes self.old) (Self.nodes self.new) }
+        ensures rest { ChangesOne root.now (root.now ++ item.now.path) (Self.nodes self.old) (Self.nodes self.new) }
         ensures outside { KeepsOutside root.now (Self.nodes self.old) (Self.nodes self.new) };
 }
 
@@ -46,7 +47,7 @@ impl<M: FileMaker> Remover for M {
         remove(self, path)
     }
 
-    #[tactic(auto, using(crate::proofs::BelowLaws::outside_same, crate::proofs::RemovalLaws::no_file_same))]
+    #[tactic(auto, using(crate::proofs::BelowLaws::outside_same, crate::proofs::RemovalLaws::no_file_same, crate::proofs::RemovalLaws::changes_same))]
     fn take_item_away(&mut self, alloc: Global, root: &str, item: &Item) -> Result<(), SinkFault> {
         let path = known_path_of(alloc, root, item)?;
         self.take_away(root, path.as_str())
@@ -68,6 +69,7 @@ pub(crate) fn take_back<M: Remover>(maker: &mut M, root: &str, path: &str)
 pub(crate) fn take_item_back<M: Remover>(alloc: Global, maker: &mut M, root: &str, item: &Item)
     ensures removed { IsRemoved M.is_refused (M.nodes maker.new) (root.now ++ item.now.path) }
     ensures others { MakesNoFile (M.nodes maker.old) (M.nodes maker.new) }
+    ensures rest { ChangesOne root.now (root.now ++ item.now.path) (M.nodes maker.old) (M.nodes maker.new) }
     ensures outside { KeepsOutside root.now (M.nodes maker.old) (M.nodes maker.new) }
 {
     let _ = maker.take_item_away(alloc, root, item);

@@ -1,5 +1,5 @@
 //! A sink over a folder that may hold files already.
-ghost use Rattle.std.specs.Prelude.{◌≡◌, ◌∷◌, [], ◌<◌, ◌≤◌, true, length, IfOk, OnOk, OnErr, IfErr, IfSome, Ok, Err, None};
+ghost use Rattle.std.specs.Prelude.{◌≡◌, ◌++◌, ◌∷◌, [], ◌<◌, ◌≤◌, true, length, IfOk, OnOk, OnErr, IfErr, IfSome, Ok, Err, None};
 ghost use Rattle.std.specs.Thread.{IsSync};
 ghost use Rattle.br_fs.specs.Making.{IsEmptyAt, IsKindAt};
 ghost use Rattle.br_fs.specs.declared.kind.Kind.TheVariants.{Folder};
@@ -12,9 +12,10 @@ ghost use Rattle.br_sink.specs.declared.file_parts.PartsFault.TheVariants as why
 ghost use Rattle.br_sink_folder.specs.Below.{KeepsOutside};
 ghost use Rattle.br_sink_folder.specs.Fault.{IsRefused};
 ghost use Rattle.br_sink_folder.specs.Held.{LeavesFiles};
+ghost use Rattle.br_sink_folder.specs.Removed.{ChangesOne};
 ghost use Rattle.br_sink_folder.specs.There.{IsNotThere};
 ghost use Rattle.br_sink_folder.specs.TwoFiles.{LeavesTwo};
-ghost use Rattle.br_sink_folder.specs.Resuming.{LeavesLike, PutsBytes, PutsLike};
+ghost use Rattle.br_sink_folder.specs.Resuming.{KeepsWhole, LeavesLike, LeavesLikeAtStop, PutsBytes, PutsLike, StaysThere};
 ghost use Rattle.br_types.specs.declared.wanted.Start.TheVariants.{Empty, Resumed};
 
 use crate::fault::FolderFault;
@@ -112,6 +113,8 @@ impl<M: ManyWriter + Comparer + Drop> Sink for Resuming<M> {
         ensures failed { result ≡ Err Fault → self.old.folder.failures < self.new.folder.failures }
         ensures path { self.new.folder.path ≡ self.old.folder.path }
         ensures file { OnOk result (PutsLike self.old.folder.path item.now self.old.folder.nodes self.new.folder.nodes) }
+        ensures stays { StaysThere self.old.start self.old.folder.path item.now self.old.folder.nodes self.new.folder.nodes }
+        ensures rest { ChangesOne self.old.folder.path (self.old.folder.path ++ item.now.path) self.old.folder.nodes self.new.folder.nodes }
         ensures outside { KeepsOutside self.old.folder.path self.old.folder.nodes self.new.folder.nodes }
     {
         match self.start {
@@ -122,7 +125,7 @@ impl<M: ManyWriter + Comparer + Drop> Sink for Resuming<M> {
 
     /// Puts each of the files, as `put` does: one after another if the delivery is resumed, else as
     /// the sink over the folder puts them.
-    #[tactic(auto, using(crate::proofs::LikeLaws::leaves_same))]
+    #[tactic(auto, using(crate::proofs::LikeLaws::leaves_same, crate::proofs::LikeLaws::stops_same))]
     fn put_all<R: Threads + Sync>(
         &mut self,
         threads: &R,
@@ -137,6 +140,9 @@ impl<M: ManyWriter + Comparer + Drop> Sink for Resuming<M> {
         ensures files { OnOk result (LeavesLike self.old.folder.path (items_in outcomes.now) self.old.folder.nodes self.new.folder.nodes) }
         ensures whole { self.old.start ≡ Empty
             → OnOk result (LeavesFiles self.old.folder.path (items_in outcomes.now) self.old.folder.nodes self.new.folder.nodes) }
+        ensures before { IfErr result (LeavesLikeAtStop self.old.folder.path (items_in outcomes.now) self.old.folder.nodes self.new.folder.nodes) }
+        ensures stays { self.old.start ≡ Resumed
+            → KeepsWhole self.old.folder.path (items_in outcomes.now) self.old.folder.nodes self.new.folder.nodes }
         ensures outside { KeepsOutside self.old.folder.path self.old.folder.nodes self.new.folder.nodes }
     {
         match self.start {
@@ -167,6 +173,7 @@ impl<M: ManyWriter + Comparer + Drop> Sink for Resuming<M> {
         ensures file { OnOk result (PutsLike self.old.folder.path item.now self.old.folder.nodes self.new.folder.nodes) }
         ensures whole { self.old.start ≡ Empty
             → IfOk result (λ bytes. PutsBytes self.old.folder.path item.now bytes self.old.folder.nodes self.new.folder.nodes) }
+        ensures stays { StaysThere self.old.start self.old.folder.path item.now self.old.folder.nodes self.new.folder.nodes }
         ensures outside { KeepsOutside self.old.folder.path self.old.folder.nodes self.new.folder.nodes }
     {
         match self.start {

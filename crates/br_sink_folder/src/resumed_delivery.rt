@@ -1,13 +1,14 @@
 //! Puts files into a folder that may hold some of them.
-ghost use Rattle.std.specs.Prelude.{◌≡◌, ◌<◌, ◌≤◌, true, false, length, IfOk, OnOk, IfErr, Err};
+ghost use Rattle.std.specs.Prelude.{◌≡◌, ◌++◌, ◌<◌, ◌≤◌, true, false, length, IfOk, OnOk, IfErr, Err};
 ghost use Rattle.br_model.specs.File.{has_bytes};
 ghost use Rattle.br_sink.specs.Delivery.{IsStopBelow, items_in};
 ghost use Rattle.br_sink.specs.FileParts.{AreAlike};
 ghost use Rattle.br_sink.specs.declared.fault.SinkFault.TheVariants.{Fault};
 ghost use Rattle.br_sink.specs.declared.file_parts.PartsFault.TheVariants as why;
 ghost use Rattle.br_sink_folder.specs.Below.{AddsFolders, KeepsOutside};
+ghost use Rattle.br_sink_folder.specs.Removed.{ChangesOne};
 ghost use Rattle.br_sink_folder.specs.There.{IsThere};
-ghost use Rattle.br_sink_folder.specs.Resuming.{LeavesLike, PutsLike};
+ghost use Rattle.br_sink_folder.specs.Resuming.{KeepsWhole, LeavesLike, LeavesLikeAtStop, PutsLike};
 
 use crate::folder_sink::FolderSink;
 use crate::window::ManyWriter;
@@ -18,7 +19,7 @@ use br_types::FileKey;
 use std::alloc::Global;
 
 /// Puts a file, unless it is there already. One that differs is removed, and made anew.
-#[tactic(auto, using(crate::proofs::LikeLaws::puts_there, crate::proofs::LikeLaws::puts_after, crate::proofs::LikeLaws::outside_after, crate::proofs::LikeLaws::outside_only, crate::proofs::LikeLaws::adds_both, crate::proofs::LikeLaws::stays_there))]
+#[tactic(auto, using(crate::proofs::LikeLaws::puts_there, crate::proofs::LikeLaws::puts_after, crate::proofs::LikeLaws::outside_after, crate::proofs::LikeLaws::outside_only, crate::proofs::LikeLaws::adds_both, crate::proofs::LikeLaws::stays_there, crate::proofs::LikeLaws::changes_only))]
 pub(crate) fn put_missing<M: ManyWriter + Comparer + Drop>(
     sink: &mut FolderSink<M>,
     item: &Item,
@@ -30,6 +31,7 @@ pub(crate) fn put_missing<M: ManyWriter + Comparer + Drop>(
     ensures stays { has_bytes item.now.kind ≡ true → IsThere sink.old.path item.now sink.old.nodes
         → AddsFolders sink.old.path sink.old.nodes sink.new.nodes }
     ensures folders { has_bytes item.now.kind ≡ false → AddsFolders sink.old.path sink.old.nodes sink.new.nodes }
+    ensures rest { ChangesOne sink.old.path (sink.old.path ++ item.now.path) sink.old.nodes sink.new.nodes }
     ensures outside { KeepsOutside sink.old.path sink.old.nodes sink.new.nodes }
 {
     if sink.is_put(item)? {
@@ -82,6 +84,8 @@ pub(crate) fn put_each<M: ManyWriter + Comparer + Drop>(
     ensures failed { IfErr result (λ stop. stop.number ≡ 80 → sink.old.failures < sink.new.failures) }
     ensures path { sink.new.path ≡ sink.old.path }
     ensures files { OnOk result (LeavesLike sink.old.path (items_in outcomes.now) sink.old.nodes sink.new.nodes) }
+    ensures before { IfErr result (LeavesLikeAtStop sink.old.path (items_in outcomes.now) sink.old.nodes sink.new.nodes) }
+    ensures stays { KeepsWhole sink.old.path (items_in outcomes.now) sink.old.nodes sink.new.nodes }
     ensures outside { KeepsOutside sink.old.path sink.old.nodes sink.new.nodes }
 {
     let mut done = 0;

@@ -5,7 +5,7 @@ ghost use Rattle.br_model.specs.File.{has_bytes};
 ghost use Rattle.br_model.specs.Name.{is_directory};
 ghost use Rattle.br_sink_folder.specs.Below.{AddsFolders, KeepsOutside, PutsBelow};
 ghost use Rattle.br_sink_folder.specs.FolderSink.{PutsItem, is_on_disk};
-ghost use Rattle.br_sink_folder.specs.Removed.{GivesUp};
+ghost use Rattle.br_sink_folder.specs.Removed.{ChangesOne, GivesUp};
 
 use crate::below_folder::{folder_below, make_anew, make_way, write_made};
 use crate::remover::{Remover, take_back};
@@ -17,7 +17,7 @@ use std::alloc::Global;
 
 /// Writes the file, and makes the folders on its way. If the file could not be written, what was
 /// made of it is removed again, as far as possible.
-#[tactic(auto, using(crate::proofs::BelowLaws::outside_then, crate::proofs::BelowLaws::outside_twice, crate::proofs::BelowLaws::outside_undone, crate::proofs::BelowLaws::put_below, crate::proofs::RemovalLaws::gives_added, crate::proofs::RemovalLaws::gives_unmade, crate::proofs::RemovalLaws::gives_unwritten))]
+#[tactic(auto, using(crate::proofs::BelowLaws::outside_then, crate::proofs::BelowLaws::outside_twice, crate::proofs::BelowLaws::outside_undone, crate::proofs::BelowLaws::put_below, crate::proofs::RemovalLaws::gives_added, crate::proofs::RemovalLaws::gives_unmade, crate::proofs::RemovalLaws::gives_unwritten, crate::proofs::RemovalLaws::changes_added, crate::proofs::RemovalLaws::file_changes, crate::proofs::RemovalLaws::file_changes_twice, crate::proofs::RemovalLaws::file_is_undone))]
 fn write_file<M: Remover>(
     alloc: Global,
     maker: &mut M,
@@ -28,6 +28,7 @@ fn write_file<M: Remover>(
     ensures name { OnOk result (is_directory item.now.path ≡ false) }
     ensures put { OnOk result (PutsBelow root.now item.now.path item.now.bytes (M.nodes maker.old) (M.nodes maker.new)) }
     ensures removed { OnErr result (GivesUp M.is_refused root.now item.now.path (M.nodes maker.old) (M.nodes maker.new)) }
+    ensures rest { ChangesOne root.now (root.now ++ item.now.path) (M.nodes maker.old) (M.nodes maker.new) }
     ensures outside { KeepsOutside root.now (M.nodes maker.old) (M.nodes maker.new) }
 {
     let path = path_of(alloc, maker, root, item)?;
@@ -59,7 +60,7 @@ fn write_folder<M: FileMaker>(
 }
 
 /// Puts the item on disk, as its type requires.
-#[tactic(auto, using(crate::proofs::BelowLaws::outside_added, crate::proofs::BelowLaws::outside_same, crate::proofs::RemovalLaws::gives_added))]
+#[tactic(auto, using(crate::proofs::BelowLaws::outside_added, crate::proofs::BelowLaws::outside_same, crate::proofs::RemovalLaws::gives_added, crate::proofs::RemovalLaws::changes_added, crate::proofs::RemovalLaws::changes_same))]
 pub(crate) fn write_item<M: Remover>(
     alloc: Global,
     maker: &mut M,
@@ -73,6 +74,7 @@ pub(crate) fn write_item<M: Remover>(
     ensures folders { has_bytes item.now.kind ≡ false → AddsFolders root.now (M.nodes maker.old) (M.nodes maker.new) }
     ensures removed { OnErr result (GivesUp M.is_refused root.now item.now.path (M.nodes maker.old) (M.nodes maker.new)) }
     ensures nothing { is_on_disk item.now.kind ≡ false → M.nodes maker.new ≡ M.nodes maker.old }
+    ensures rest { ChangesOne root.now (root.now ++ item.now.path) (M.nodes maker.old) (M.nodes maker.new) }
     ensures outside { KeepsOutside root.now (M.nodes maker.old) (M.nodes maker.new) }
 {
     match item.kind {

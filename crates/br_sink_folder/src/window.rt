@@ -2,13 +2,14 @@
 ghost use Rattle.std.specs.Prelude.{◌≡◌, ℕ, ◌++◌, ◌∷◌, ◌<◌, ◌≤◌, [], true, false, length, vec_len, vec_capacity};
 ghost use Rattle.std.specs.Prelude.{Option, Ok, IfErr, IfOk, OnErr, OnOk};
 ghost use Rattle.std.specs.Thread.{IsSync};
-ghost use Rattle.br_fs.specs.Making.{IsFinished};
+ghost use Rattle.br_fs.specs.Making.{IsFinished, KeepsOthers};
 ghost use Rattle.br_sink.specs.Delivery.{IsStopBelow};
 ghost use Rattle.br_sink_folder.specs.Below.{KeepsOutside};
 ghost use Rattle.br_sink_folder.specs.Held.{AppendsSome, AreAnswered, FinishesHeld, FinishesOne};
 ghost use Rattle.br_sink_folder.specs.Held.{FinishesSome, HoldsStill, IsNew, IsWritten, LeavesHeld};
-ghost use Rattle.br_sink_folder.specs.Held.{AppendsFrontSome, WritesEach, WritesOne};
-ghost use Rattle.br_sink_folder.specs.Removed.{AreRemoved, AreRemovedFrom, IsRemoved, MakesNoFile, files_of};
+ghost use Rattle.br_sink_folder.specs.Held.{AppendsFrontSome, Rise, WritesEach, WritesOne};
+ghost use Rattle.br_sink_folder.specs.Removed.{AreRemoved, AreRemovedFrom, ChangesOne, IsRemoved, MakesNoFile, files_of};
+ghost use Rattle.br_sink_folder.specs.Stopped.{AnsweredBefore, KeepsBefore, StopsHeld};
 ghost use Rattle.br_sink_folder.specs.Window.{AreBelow};
 
 use crate::below_folder::{finish, write_fault};
@@ -56,7 +57,7 @@ fn write_bytes<W: Write>(file: &mut Option<W>, item: &Item) -> Result<(), SinkFa
 }
 
 /// Closes the file of an item.
-#[tactic(auto, using(crate::proofs::BelowLaws::outside_set, crate::proofs::BelowLaws::outside_same))]
+#[tactic(auto, using(crate::proofs::BelowLaws::outside_set, crate::proofs::BelowLaws::outside_same, crate::proofs::BelowLaws::same_others))]
 fn close_file<M: FileMaker>(
     alloc: Global,
     maker: &mut M,
@@ -66,6 +67,7 @@ fn close_file<M: FileMaker>(
 ) -> Result<(), SinkFault>
     ensures finished { OnOk result (IsFinished (root.now ++ item.now.path) (M.New.contents file) (M.nodes maker.old)
         (M.nodes maker.new)) }
+    ensures others { KeepsOthers (root.now ++ item.now.path) (M.nodes maker.old) (M.nodes maker.new) }
     ensures outside { KeepsOutside root.now (M.nodes maker.old) (M.nodes maker.new) }
 {
     let path = known_path_of(alloc, root, item)?;
@@ -73,7 +75,7 @@ fn close_file<M: FileMaker>(
 }
 
 /// Closes the file of an item, unless it could not be written.
-#[tactic(auto, using(crate::proofs::BelowLaws::outside_same))]
+#[tactic(auto, using(crate::proofs::BelowLaws::outside_same, crate::proofs::BelowLaws::same_others))]
 fn close<M: FileMaker>(
     alloc: Global,
     maker: &mut M,
@@ -84,6 +86,7 @@ fn close<M: FileMaker>(
 ) -> Result<(), SinkFault>
     ensures written { OnOk result (written ≡ Ok tt) }
     ensures finished { OnOk result (IsFinished (root.now ++ item.now.path) (M.New.contents file) (M.nodes maker.old) (M.nodes maker.new)) }
+    ensures others { KeepsOthers (root.now ++ item.now.path) (M.nodes maker.old) (M.nodes maker.new) }
     ensures outside { KeepsOutside root.now (M.nodes maker.old) (M.nodes maker.new) }
 {
     written?;
@@ -91,7 +94,7 @@ fn close<M: FileMaker>(
 }
 
 /// Closes the file of an item, if there is one.
-#[tactic(auto, using(crate::proofs::BelowLaws::outside_same))]
+#[tactic(auto, using(crate::proofs::BelowLaws::outside_same, crate::proofs::BelowLaws::same_others))]
 fn close_some<M: FileMaker>(
     alloc: Global,
     maker: &mut M,
@@ -102,6 +105,7 @@ fn close_some<M: FileMaker>(
 ) -> Result<(), SinkFault>
     ensures written { OnOk result (written ≡ Ok tt) }
     ensures finished { OnOk result (FinishesSome M.New.contents (root.now ++ item.now.path) file (M.nodes maker.old) (M.nodes maker.new)) }
+    ensures others { KeepsOthers (root.now ++ item.now.path) (M.nodes maker.old) (M.nodes maker.new) }
     ensures outside { KeepsOutside root.now (M.nodes maker.old) (M.nodes maker.new) }
 {
     match file {
@@ -124,6 +128,7 @@ impl<'i, W: Write + Drop> Made<'i, W> {
         ensures place { self.new.place ≡ self.old.place }
         ensures item { self.new.item.now ≡ self.old.item.now }
         ensures finished { FinishesOne W.contents root.now self.old self.new (M.nodes maker.old) (M.nodes maker.new) }
+        ensures others { KeepsOthers (root.now ++ self.old.item.now.path) (M.nodes maker.old) (M.nodes maker.new) }
         ensures outside { KeepsOutside root.now (M.nodes maker.old) (M.nodes maker.new) }
     {
         let file = self.file.take();
@@ -176,7 +181,7 @@ fn write_in_threads<W: Write + Drop + Send, T: Threads + Sync>(
 }
 
 /// Closes the files.
-#[tactic(auto, using(crate::proofs::HeldLaws::held_end, crate::proofs::BelowLaws::outside_same))]
+#[tactic(auto, using(crate::proofs::HeldLaws::close_begin, crate::proofs::HeldLaws::close_end, crate::proofs::BelowLaws::outside_same))]
 fn finish_each<W: Write + Drop, M: FileMaker<New = W>>(
     alloc: Global,
     maker: &mut M,
@@ -194,7 +199,7 @@ fn finish_each<W: Write + Drop, M: FileMaker<New = W>>(
 }
 
 /// Removes the file again if it is at the place or after it, as far as possible.
-#[tactic(auto, using(crate::proofs::BelowLaws::outside_same, crate::proofs::RemovalLaws::no_file_same))]
+#[tactic(auto, using(crate::proofs::BelowLaws::outside_same, crate::proofs::RemovalLaws::no_file_same, crate::proofs::StopLaws::removes_one, crate::proofs::StopLaws::removes_none))]
 fn remove_one<W: Write + Drop, M: Remover<New = W>>(
     alloc: Global,
     maker: &mut M,
@@ -204,6 +209,7 @@ fn remove_one<W: Write + Drop, M: Remover<New = W>>(
 )
     ensures removed { place ≤ one.now.place → IsRemoved M.is_refused (M.nodes maker.new) (root.now ++ one.now.item.now.path) }
     ensures others { MakesNoFile (M.nodes maker.old) (M.nodes maker.new) }
+    ensures kept { KeepsBefore root.now place ((one.now.place, one.now.item.now.path) ∷ []) (M.nodes maker.old) (M.nodes maker.new) }
     ensures outside { KeepsOutside root.now (M.nodes maker.old) (M.nodes maker.new) }
 {
     if place <= one.place {
@@ -212,7 +218,7 @@ fn remove_one<W: Write + Drop, M: Remover<New = W>>(
 }
 
 /// Removes the files from this place on again, as far as possible.
-#[tactic(auto, using(crate::proofs::BelowLaws::outside_more, crate::proofs::BelowLaws::outside_same))]
+#[tactic(auto, using(crate::proofs::BelowLaws::outside_more, crate::proofs::BelowLaws::outside_same, crate::proofs::StopLaws::keeps_none))]
 fn remove_from<W: Write + Drop, M: Remover<New = W>>(
     alloc: Global,
     maker: &mut M,
@@ -221,6 +227,7 @@ fn remove_from<W: Write + Drop, M: Remover<New = W>>(
     place: u64,
 )
     ensures removed { AreRemoved M.is_refused root.now place (files_of made.now) (M.nodes maker.new) }
+    ensures kept { KeepsBefore root.now place (files_of made.now) (M.nodes maker.old) (M.nodes maker.new) }
     ensures outside { KeepsOutside root.now (M.nodes maker.old) (M.nodes maker.new) }
 {
     for one in made {
@@ -233,6 +240,7 @@ fn remove_from<W: Write + Drop, M: Remover<New = W>>(
 fn settle<W: Write + Drop>(made: &[Made<'_, W>]) -> Result<(), SinkStop>
     ensures stopped { (n : ℕ) → AreBelow n made.now → IfErr result (IsStopBelow n) }
     ensures answered { OnOk result (AreAnswered made.now) }
+    ensures first { Rise (files_of made.now) → IfErr result (AnsweredBefore made.now) }
 {
     for one in made {
         if let Err(fault) = one.answer {
@@ -253,6 +261,7 @@ fn close_all<W: Write + Drop, M: Remover<New = W>>(
 ) -> Result<(), SinkStop>
     ensures stopped { (n : ℕ) → AreBelow n made.old → IfErr result (IsStopBelow n) }
     ensures left { LeavesHeld (IsWritten W.contents root.now) root.now made.old (M.nodes maker.old) (M.nodes maker.new) result }
+    ensures before { StopsHeld (IsWritten W.contents root.now) root.now made.old (M.nodes maker.old) (M.nodes maker.new) result }
     ensures removed { IfErr result (AreRemovedFrom M.is_refused root.now (files_of made.old) (M.nodes maker.new)) }
     ensures outside { KeepsOutside root.now (M.nodes maker.old) (M.nodes maker.new) }
 {
@@ -279,6 +288,7 @@ fn write_and_close<W: Write + Drop, M: ManyWriter<New = W> + Remover, T: Threads
     requires { 0 < count }
     ensures stopped { (n : ℕ) → AreBelow n made.old → IfErr result (IsStopBelow n) }
     ensures left { LeavesHeld (IsNew W.contents root.now) root.now made.old (M.nodes maker.old) (M.nodes maker.new) result }
+    ensures before { StopsHeld (IsNew W.contents root.now) root.now made.old (M.nodes maker.old) (M.nodes maker.new) result }
     ensures removed { IfErr result (AreRemovedFrom M.is_refused root.now (files_of made.old) (M.nodes maker.new)) }
     ensures outside { KeepsOutside root.now (M.nodes maker.old) (M.nodes maker.new) }
 {
@@ -348,6 +358,7 @@ impl<'i, W: Write + Drop> Window<'i, W> {
         requires most { length self.old.made.items ≤ 16 }
         ensures stopped { (n : ℕ) → AreBelow n self.old.made.items → IfErr result (IsStopBelow n) }
         ensures left { LeavesHeld (IsNew W.contents root.now) root.now self.old.made.items (M.nodes maker.old) (M.nodes maker.new) result }
+        ensures before { StopsHeld (IsNew W.contents root.now) root.now self.old.made.items (M.nodes maker.old) (M.nodes maker.new) result }
         ensures removed { IfErr result (AreRemovedFrom M.is_refused root.now (files_of self.old.made.items) (M.nodes maker.new)) }
         ensures empty { self.new.made.items ≡ [] }
         ensures outside { KeepsOutside root.now (M.nodes maker.old) (M.nodes maker.new) }
@@ -374,6 +385,7 @@ impl<'i, W: Write + Drop> Window<'i, W> {
         ensures below { (n : ℕ) → AreBelow n self.old.made.items → OnOk result (AreBelow n self.new.made.items) }
         ensures held { HoldsStill W.contents root.now self.old.made.items self.new.made.items (M.nodes maker.old)
             (M.nodes maker.new) result }
+        ensures before { StopsHeld (IsNew W.contents root.now) root.now self.old.made.items (M.nodes maker.old) (M.nodes maker.new) result }
         ensures outside { KeepsOutside root.now (M.nodes maker.old) (M.nodes maker.new) }
     {
         if self.is_full() {

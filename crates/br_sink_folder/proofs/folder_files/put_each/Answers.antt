@@ -9,6 +9,7 @@ use Rattle.br_sink.proofs.DeliveryLaws.{items_at, items_file, items_fault, items
 use Rattle.br_sink_folder.proofs.BelowLaws.{outside_more, outside_same}
 use Rattle.br_sink_folder.proofs.HeldLaws.{leaves_nothing, over_again}
 use Rattle.br_sink_folder.proofs.WindowLaws.{below_more, on_ok_known}
+use Rattle.br_sink_folder.proofs.StopLaws.{stops_within}
 use Rattle.br_sink_folder.proofs.folder_files.put_each.Goals as goal
 use Rattle.br_sink_folder.proofs.folder_files.put_each.Goals.{in-File+in_ok-put_next, in_default}
 
@@ -25,6 +26,23 @@ returns-in_err-put_next-clause-stopped g c =
     let p = err_from_is_err_and c.from_residual.result c.from_residual.ensures.1 in
     rw (p.1, p.2)
     (c.in_err-put_next.ensures.stopped count (below_more c.loop-outcome.done count c.loop-outcome.window.made.items (omega (arith, less, l.done)) l.below) (omega (arith, less, l.done)))
+
+pub returns-in_err-put_next-clause-before : goal.returns-in_err-put_next-clause-before
+returns-in_err-put_next-clause-before g c =
+    let os = c.args.outcomes.now in
+    let i : ℕ = c.loop-outcome.outcome-index in
+    let l = c.loop-outcome.invariant in
+    let item : Item = c.in-File.item in
+    let before : List Item = items_in (take i os) in
+    let rest : List Item = items_in (drop (i + 1) os) in
+    let around = items_at os i c.loop-outcome-item.result item c.loop-outcome-test.true c.loop-outcome-item.is c.in-File.is in
+    let next : ℕ = c.loop-outcome.done + 1 in
+    let below = below_more c.loop-outcome.done next c.loop-outcome.window.made.items (omega arith) l.below in
+    let nodes = g.M.FileMaker.nodes c.args.maker.now in
+    let p = err_from_is_err_and c.from_residual.result c.from_residual.ensures.1 in
+    rw (p.1, p.2)
+    (stops_within c.args.root.now (items_in os) before rest item _ nodes (g.M.FileMaker.nodes c.put_next.new.maker) next around (omega (arith, l.done))
+    (c.in_err-put_next.ensures.stopped next below (omega arith)) (c.in_err-put_next.ensures.before before nodes l.done l.below l.held))
 
 pub loop-outcome-preserved : goal.loop-outcome-preserved
 loop-outcome-preserved g c =
@@ -48,7 +66,7 @@ loop-outcome-preserved g c =
                 (w.in_ok-put_next.ensures.below next (below_more c.loop-outcome.done next c.loop-outcome.window.made.items (omega arith) l.below) (omega arith));
             room = rw w.window-is w.in_ok-put_next.ensures.few;
             outside = rw w.maker-is (outside_more _ _ _ _ l.outside w.in_ok-put_next.ensures.outside);
-            held = rw (more, w.window-is, w.maker-is) (w.in_ok-put_next.ensures.held before (g.M.FileMaker.nodes c.args.maker.now) l.held);
+            held = rw (more, w.window-is, w.maker-is) (w.in_ok-put_next.ensures.held before (g.M.FileMaker.nodes c.args.maker.now) l.done l.held);
             text = subst (All HasText) (sym more) (All-push HasText before item l.text w.in_ok-put_next.ensures.text);
             name = subst (All HasName) (sym more) (All-push HasName before item l.name w.in_ok-put_next.ensures.name);
           }
@@ -86,6 +104,12 @@ returns-clause-files g c =
     let os = c.args.outcomes.now in
     let all : take c.loop-outcome.outcome-index os ≡ os = take_all c.loop-outcome.outcome-index os c.loop-outcome-test.false in
     rw all at (c.write.ensures.left (items_in (take c.loop-outcome.outcome-index os)) (g.M.FileMaker.nodes c.args.maker.now) c.loop-outcome.invariant.held)
+
+pub returns-clause-before : goal.returns-clause-before
+returns-clause-before g c =
+    let os = c.args.outcomes.now in
+    let all : take c.loop-outcome.outcome-index os ≡ os = take_all c.loop-outcome.outcome-index os c.loop-outcome-test.false in
+    rw all at (c.write.ensures.before (items_in (take c.loop-outcome.outcome-index os)) (g.M.FileMaker.nodes c.args.maker.now) c.loop-outcome.invariant.held)
 
 pub returns-clause-text : goal.returns-clause-text
 returns-clause-text g c =

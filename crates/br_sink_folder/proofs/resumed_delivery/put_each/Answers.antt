@@ -1,15 +1,17 @@
-use Rattle.std.proofs.Common.{◌≡◌, ℕ, ◌+◌, List, [], ◌∷◌, ◌++◌, take, drop, length, refl, ap, sym, subst, ◌∙◌, arith, append-nil, length-append, Err, Option}
+use Rattle.std.proofs.Common.{◌≡◌, ℕ, ◌+◌, List, [], ◌∷◌, ◌++◌, take, drop, length, refl, ap, sym, subst, ◌∙◌, arith, append-nil, append_assoc, length-append, true, false, Err, Option}
 use Rattle.std.proofs.lemmas.List.{take_all}
 use Rattle.br_model.specs.Delivery.{Stop}
-use Rattle.br_model.specs.File.{Item}
+use Rattle.br_model.specs.File.{Item, has_bytes}
 use Rattle.br_fs.specs.Making.{Nodes}
 use Rattle.br_sink.specs.Delivery.{IsStopBelow, items_in}
 use Rattle.br_sink.specs.Fault.{fault_number}
 use Rattle.br_sink.proofs.DeliveryLaws.{items_at, items_file, items_fault, items_one_more, one_stops, fault_at_80}
 use Rattle.br_sink_folder.specs.Below.{AddsFolders, KeepsOutside}
 use Rattle.br_sink_folder.proofs.BelowLaws.{outside_same}
-use Rattle.br_sink_folder.specs.Resuming.{LeavesLike, PutsLike}
-use Rattle.br_sink_folder.proofs.LikeLaws.{leaves_more, leaves_none, outside_both}
+use Rattle.br_sink_folder.specs.Removed.{ChangesOne}
+use Rattle.br_sink_folder.specs.Resuming.{KeepsWhole, LeavesLike, PutsLike}
+use Rattle.br_sink_folder.specs.There.{IsThere}
+use Rattle.br_sink_folder.proofs.LikeLaws.{keeps_more, keeps_nothing, keeps_rest, leaves_more, leaves_none, outside_both, stops_like}
 use Rattle.br_sink_folder.proofs.resumed_delivery.put_each.Goals as goal
 use Rattle.br_sink_folder.proofs.resumed_delivery.put_each.Goals.{in-File+in_default-put_missing, in_default}
 
@@ -38,6 +40,41 @@ returns-in-Err-clause-outside g c =
     outside_both c.args.sink.now.path c.args.sink.now.nodes before after l.outside
     (subst (λ (p : List ℕ). KeepsOutside p before after) l.path c.put_missing.ensures.outside)
 
+pub returns-in-Err-clause-before : goal.returns-in-Err-clause-before
+returns-in-Err-clause-before g c =
+    let os = c.args.outcomes.now in
+    let i : ℕ = c.loop-outcome.outcome-index in
+    let l = c.loop-outcome.invariant in
+    let item : Item = c.in-File.item in
+    let around = items_at os i c.loop-outcome-item.result item c.loop-outcome-test.true c.loop-outcome-item.is c.in-File.is in
+    let middle = c.loop-outcome.sink.nodes in
+    let after = c.put_missing.new.sink.nodes in
+    stops_like c.args.sink.now.path (items_in os) (items_in (take i os)) (items_in (drop (i + 1) os)) item c.of_sink.result c.args.sink.now.nodes middle after
+    around (ap (λ (stop : Stop). stop.done) c.of_sink.ensures ∙ l.done) l.files
+    (subst (λ (p : List ℕ). ChangesOne p (p ++ item.path) middle after) l.path c.put_missing.ensures.rest)
+
+pub returns-in-Err-clause-stays : goal.returns-in-Err-clause-stays
+returns-in-Err-clause-stays g c =
+    let os = c.args.outcomes.now in
+    let i : ℕ = c.loop-outcome.outcome-index in
+    let l = c.loop-outcome.invariant in
+    let item : Item = c.in-File.item in
+    let root : List ℕ = c.args.sink.now.path in
+    let first = c.args.sink.now.nodes in
+    let before : List Item = items_in (take i os) in
+    let rest : List Item = items_in (drop (i + 1) os) in
+    let around = items_at os i c.loop-outcome-item.result item c.loop-outcome-test.true c.loop-outcome-item.is c.in-File.is in
+    let joined : (before ++ item ∷ []) ++ rest ≡ items_in os = append_assoc before (item ∷ []) rest ∙ sym around in
+    let middle = c.loop-outcome.sink.nodes in
+    let after = c.put_missing.new.sink.nodes in
+    let put = c.put_missing.ensures in
+    subst (λ (items : List Item). KeepsWhole root items first after) joined
+    (keeps_rest root (before ++ item ∷ []) rest first after
+    (keeps_more root before item first middle after l.stays
+    (subst (λ (p : List ℕ). has_bytes item.kind ≡ true → IsThere p item middle → AddsFolders p middle after) l.path put.stays)
+    (subst (λ (p : List ℕ). has_bytes item.kind ≡ false → AddsFolders p middle after) l.path put.folders)
+    (subst (λ (p : List ℕ). ChangesOne p (p ++ item.path) middle after) l.path put.rest)))
+
 pub loop-outcome-init : goal.loop-outcome-init
 loop-outcome-init g c = record {
   done = refl;
@@ -45,6 +82,7 @@ loop-outcome-init g c = record {
   counted = omega arith;
   path = refl;
   files = leaves_none c.args.sink.now.path c.args.sink.now.nodes;
+  stays = keeps_nothing c.args.sink.now.path c.args.sink.now.nodes;
   outside = outside_same c.args.sink.now.path c.args.sink.now.nodes c.args.sink.now.nodes refl;
 }
 
@@ -75,6 +113,12 @@ loop-outcome-preserved g c =
                 (leaves_more root before item first c.loop-outcome.sink.nodes nodes l.files
                 (subst (λ (p : List ℕ). PutsLike p item c.loop-outcome.sink.nodes nodes) l.path w.in_default-put_missing.ensures.file)
                 (λ none. subst (λ (p : List ℕ). AddsFolders p c.loop-outcome.sink.nodes nodes) l.path (put.folders none)));
+            stays =
+                rw (more, w.sink-is)
+                (keeps_more root before item first c.loop-outcome.sink.nodes nodes l.stays
+                (subst (λ (p : List ℕ). has_bytes item.kind ≡ true → IsThere p item c.loop-outcome.sink.nodes → AddsFolders p c.loop-outcome.sink.nodes nodes) l.path put.stays)
+                (subst (λ (p : List ℕ). has_bytes item.kind ≡ false → AddsFolders p c.loop-outcome.sink.nodes nodes) l.path put.folders)
+                (subst (λ (p : List ℕ). ChangesOne p (p ++ item.path) c.loop-outcome.sink.nodes nodes) l.path put.rest));
             outside =
                 rw w.sink-is
                 (outside_both root first c.loop-outcome.sink.nodes nodes l.outside
@@ -89,6 +133,7 @@ loop-outcome-preserved g c =
             counted = rw w.sink-is l.counted;
             path = rw w.sink-is l.path;
             files = rw (same, w.sink-is) l.files;
+            stays = rw (same, w.sink-is) l.stays;
             outside = rw w.sink-is l.outside;
           }
     ]

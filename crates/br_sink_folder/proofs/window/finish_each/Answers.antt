@@ -1,7 +1,7 @@
 use Rattle.std.proofs.Common.{◌≡◌, ◌<◌, ◌∙◌, ap, get_or, length, length-set, arith}
 use Rattle.br_sink_folder.specs.declared.window.Made.{Made}
 use Rattle.br_sink_folder.proofs.BelowLaws.{outside_more}
-use Rattle.br_sink_folder.proofs.HeldLaws.{held_step}
+use Rattle.br_sink_folder.proofs.HeldLaws.{close_step}
 use Rattle.br_sink_folder.proofs.RemovalLaws.{files_set}
 use Rattle.br_sink_folder.proofs.WindowLaws.{below_set}
 use Rattle.br_sink_folder.proofs.window.finish_each.Goals as goal
@@ -20,6 +20,7 @@ loop-i-preserved g c =
       files = files_set made c.loop-i.i was new is c.finish.ensures.place c.finish.ensures.item ∙ l.files;
       long = length-set made c.loop-i.i new ∙ l.long;
       held = λ items earlier held.
-          held_step g.W.Write.contents c.args.root.now items made c.loop-i.i was new earlier
-          (g.M.FileMaker.nodes c.loop-i.maker) (g.M.FileMaker.nodes c.finish.new.maker) low is c.finish.ensures.finished c.finish.ensures.outside (l.held items earlier held);
+          close_step g.W.Write.contents c.args.root.now items made c.loop-i.i was new earlier
+          (g.M.FileMaker.nodes c.loop-i.maker) (g.M.FileMaker.nodes c.finish.new.maker) low is c.finish.ensures.item c.finish.ensures.finished
+          c.finish.ensures.others (l.held items earlier held);
     }
