@@ -6,7 +6,8 @@
 #     catalogue/import.sh NEW.db --sqlite FILE                                from a file of SQLite
 #
 # docs/RESTORING.md says how it is used, docs/formats.md what it takes and what it prints. The database is only read.
-# sqlite.sql, pgsql.sql and mysql.sql read it, stage.sql has the tables that they fill, and rules.sql makes the catalogue.
+# sqlite.sql, pgsql.sql and mysql.sql read it. stage.sql has the tables for its rows; lines.sql fills them from the lines that the client of a
+# server prints. rules.sql makes the catalogue.
 
 set -eu
 LC_ALL=C
@@ -93,7 +94,7 @@ needs() {
     command -v "$1" > /dev/null || fail "there is no $1$2"
 }
 
-for file in stage.sql rules.sql "$kind.sql"; do
+for file in stage.sql lines.sql rules.sql "$kind.sql"; do
     [ -r "$here/$file" ] || fail "$here/$file is missing: call the script by its own path, not by a link"
 done
 needs sqlite3 ': install it'
@@ -183,7 +184,7 @@ run_mysql() {
     ?*) set -- --host="$host" ;;
     *) set -- ;;
     esac
-    run_client "$mysql" "$@" ${port:+--port="$port"} ${user:+--user="$user"} --batch --raw --quick --skip-column-names --database="$base"
+    run_client "$mysql" "$@" ${port:+--port="$port"} ${user:+--user="$user"} --batch --quick --skip-column-names --default-character-set=latin1 --database="$base"
 }
 
 # Whether the names of files are in a table of their own, as before Bacula 11, and which text of SQL limits the jobs.
@@ -244,19 +245,6 @@ reading() {
         -e "s|@\([A-Z]\)|$before\1|g" "$here/$kind.sql"
 }
 
-# Prints statements that fill the tables of rows, as the client of the database makes them of its own rows.
-rows() {
-    cat "$here/stage.sql"
-    if [ $kind = sqlite ]; then
-        reading
-    else
-        echo 'BEGIN;'
-        # What is printed last says that nothing is missing.
-        reading | run_$kind || return
-        echo 'COMMIT;'
-    fi
-}
-
 # Ends without a catalogue. Says why each job is left out and, if not all jobs were asked for, which names there are.
 no_job() {
     cat "$work/lines" >&2
@@ -269,8 +257,19 @@ no_job() {
 # The empty tables are made by the program itself.
 said=$("$program" serve --db "$work/new.db" --volumes "$work" < /dev/null 2>&1) ||
     fail "$program cannot make a catalogue beside $new: ${said:-it says nothing}. Is there room?"
-rows | exec_sqlite > /dev/null &
-wait_for_step || fail "the rows of the database cannot be copied into the folder of $new"
+# What is printed last says that nothing is missing. The lines of a client become rows of in_file at first: one that cannot be added is no more
+# than a line on standard error.
+if [ $kind = sqlite ]; then
+    { cat "$here/stage.sql" && reading; } | exec_sqlite > /dev/null 2> "$work/said" &
+else
+    tables=$(sed '/^--/d' "$here/stage.sql") moves=$(sed '/^--/d' "$here/lines.sql")
+    reading | run_$kind |
+        exec_sqlite "$tables" BEGIN '.mode ascii' '.separator "\t" "\n"' '.import /dev/stdin in_file' "$moves" COMMIT > /dev/null 2> "$work/said" &
+fi
+copied=0
+wait_for_step || copied=$?
+head -n 9 "$work/said" >&2
+if [ $copied != 0 ] || [ -s "$work/said" ]; then fail "the rows of the database cannot be copied into the folder of $new"; fi
 [ "$(run_sqlite 'SELECT count(*) FROM in_end')" = 1 ] || fail 'the database cannot be read to its end'
 exec_sqlite < "$here/rules.sql" > /dev/null &
 wait_for_step || fail "the catalogue cannot be made in the folder of $new"

@@ -186,26 +186,35 @@ INSERT INTO entry
       SELECT *, CASE WHEN is_plain AND spaces >= 12 THEN '["' || replace(lstat, ' ', '","') || '"]' END AS words,
         -- Sixteen words, the last two of one digit.
         is_plain AND spaces = 15 AND substr(lstat, -2, 1) = ' ' AND substr(lstat, -4, 1) = ' ' AS is_short,
-        hex IS NOT NULL AND length(MD5) = 22 AND substr(hex, 33) = '0' AS is_md5
+        length(hex) = 32 OR length(hex) = 33 AND substr(hex, 33) = '0' AS is_md5
       FROM (
-        SELECT f.FileId, f.JobId, f.FileIndex, f.Filename, f.MD5, p.number, CAST(f.LStat AS TEXT) AS lstat,
-          length(f.LStat) - length(replace(f.LStat, ' ', '')) AS spaces,
+        SELECT f.FileId, f.JobId, f.FileIndex, f.Filename, f.MD5, p.number, f.lstat,
+          length(f.lstat) - length(replace(f.lstat, ' ', '')) AS spaces,
           -- Words of 1 to 10 digits with a space between two.
-          f.FileIndex > 0 AND instr(f.LStat, x'00') = 0 AND instr(f.LStat, x'2020') = 0 AND substr(f.LStat, 1, 1) <> x'20'
-            AND substr(f.LStat, -1) <> x'20' AND CAST(f.LStat AS TEXT) NOT GLOB '*[^A-Za-z0-9+/ ]*'
-            AND ' ' || CAST(f.LStat AS TEXT) NOT GLOB '* [^ ][^ ][^ ][^ ][^ ][^ ][^ ][^ ][^ ][^ ][^ ]*' AS is_plain,
-          a.hex || b.hex || c.hex || d.hex || e.hex || g.hex || h.hex || i.hex || k.hex || l.hex || m.hex AS hex,
-          p.number IS NULL OR f.Filename IS NULL OR p.size + length(f.Filename) > 4096 OR instr(f.Filename, x'2f')
-            OR instr(f.Filename, x'00') OR f.Filename IN (x'2e', x'2e2e') AS is_bad_path,
+          f.FileIndex > 0 AND instr(f.lstat, '  ') = 0 AND substr(f.lstat, 1, 1) <> ' ' AND substr(f.lstat, -1) <> ' '
+            AND (f.kind = 'plain' OR instr(CAST(f.lstat AS BLOB), x'00') = 0 AND f.lstat NOT GLOB '*[^A-Za-z0-9+/ ]*'
+              AND ' ' || f.lstat NOT GLOB '* [^ ][^ ][^ ][^ ][^ ][^ ][^ ][^ ][^ ][^ ][^ ]*') AS is_plain,
+          -- 22 digits make 33 of hexadecimal, of which the last one is 0.
+          CASE
+            WHEN f.hex <> '' THEN f.hex
+            WHEN length(f.MD5) = 22 THEN (
+              SELECT a.hex || b.hex || c.hex || d.hex || e.hex || g.hex || h.hex || i.hex || k.hex || l.hex || m.hex
+              FROM pair a, pair b, pair c, pair d, pair e, pair g, pair h, pair i, pair k, pair l, pair m
+              WHERE a.digits = substr(f.MD5, 1, 2) AND b.digits = substr(f.MD5, 3, 2) AND c.digits = substr(f.MD5, 5, 2)
+                AND d.digits = substr(f.MD5, 7, 2) AND e.digits = substr(f.MD5, 9, 2) AND g.digits = substr(f.MD5, 11, 2)
+                AND h.digits = substr(f.MD5, 13, 2) AND i.digits = substr(f.MD5, 15, 2) AND k.digits = substr(f.MD5, 17, 2)
+                AND l.digits = substr(f.MD5, 19, 2) AND m.digits = substr(f.MD5, 21, 2))
+          END AS hex,
+          p.number IS NULL OR p.size + length(f.Filename) > 4096 OR instr(f.Filename, x'2f') OR instr(f.Filename, x'00')
+            OR f.Filename IN (x'2e', x'2e2e') AS is_bad_path,
           f.FileIndex > 0 AND NOT EXISTS (
             SELECT 1 FROM span s WHERE s.JobId = f.JobId AND s.LastIndex >= f.FileIndex AND s.FirstIndex <= f.FileIndex) AS is_outside
-        FROM in_file f CROSS JOIN job j ON j.JobId = f.JobId LEFT JOIN folder p ON p.PathId = f.PathId
-          LEFT JOIN pair a ON a.digits = substr(f.MD5, 1, 2) LEFT JOIN pair b ON b.digits = substr(f.MD5, 3, 2)
-          LEFT JOIN pair c ON c.digits = substr(f.MD5, 5, 2) LEFT JOIN pair d ON d.digits = substr(f.MD5, 7, 2)
-          LEFT JOIN pair e ON e.digits = substr(f.MD5, 9, 2) LEFT JOIN pair g ON g.digits = substr(f.MD5, 11, 2)
-          LEFT JOIN pair h ON h.digits = substr(f.MD5, 13, 2) LEFT JOIN pair i ON i.digits = substr(f.MD5, 15, 2)
-          LEFT JOIN pair k ON k.digits = substr(f.MD5, 17, 2) LEFT JOIN pair l ON l.digits = substr(f.MD5, 19, 2)
-          LEFT JOIN pair m ON m.digits = substr(f.MD5, 21, 2)
+        FROM (
+          SELECT kind, FileId, FileIndex, JobId, PathId, CAST(Filename AS BLOB) AS Filename, CAST(LStat AS TEXT) AS lstat,
+            CAST(MD5 AS BLOB) AS MD5, hex
+          FROM in_file
+          LIMIT -1 OFFSET 0) f
+          CROSS JOIN job j ON j.JobId = f.JobId LEFT JOIN folder p ON p.PathId = f.PathId
         WHERE j.kind IS NULL
         LIMIT -1 OFFSET 0)
       LIMIT -1 OFFSET 0)

@@ -17,7 +17,7 @@ INSERT INTO in_jobmedia
 INSERT INTO in_path SELECT PathId, CAST(Path AS BLOB) FROM @Path WHERE @all@ = 1 OR PathId IN (
   SELECT f.PathId FROM @File f WHERE f.JobId IN (SELECT JobId FROM in_job));
 INSERT INTO in_file
-  SELECT f.FileId, f.FileIndex, f.JobId, f.PathId, CAST(@name@ AS BLOB), CAST(f.LStat AS BLOB), CAST(f.MD5 AS BLOB)
+  SELECT 'file', f.FileId, f.FileIndex, f.JobId, f.PathId, ifnull(@name@, '/'), f.LStat, f.MD5, ''
   FROM @File f@names@
   WHERE f.JobId IN (SELECT JobId FROM in_job WHERE Type = x'42');
 INSERT INTO in_count SELECT f.JobId, count(*) FROM @File f WHERE f.JobId IN (SELECT JobId FROM in_job WHERE Type <> x'42') GROUP BY f.JobId;
