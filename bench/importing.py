@@ -80,7 +80,7 @@ def exported(source):
         lines = text.read()
     for word, value in {"@names@": "", "@name@": "f.Filename", "@within@": "1 = 1", "@all@": "1", "@": ""}.items():
         lines = lines.replace(word, value)
-    client = source.client if source.name == "PostgreSQL" else [*source.client, "--batch", "--raw", "--quick", "--skip-column-names", "bacula"]
+    client = source.client if source.name == "PostgreSQL" else [*source.client, "--batch", "--quick", "--skip-column-names", "--default-character-set=latin1", "bacula"]
     started = time.monotonic()
     subprocess.run(client, input=lines.encode(), stdout=subprocess.DEVNULL, check=True)
     return time.monotonic() - started

@@ -6,8 +6,8 @@
 #     catalogue/import.sh NEW.db --sqlite FILE                                from a file of SQLite
 #
 # docs/RESTORING.md says how it is used, docs/formats.md what it takes and what it prints. The database is only read.
-# sqlite.sql, pgsql.sql and mysql.sql read it. stage.sql has the tables for its rows; lines.sql fills them from the lines that the client of a
-# server prints. rules.sql makes the catalogue.
+# sqlite.sql, pgsql.sql and mysql.sql read it. stage.sql has the tables for its rows; lines.sql fills them from the lines that the client
+# of a server prints. rules.sql makes the catalogue.
 
 set -eu
 LC_ALL=C
@@ -257,14 +257,15 @@ no_job() {
 # The empty tables are made by the program itself.
 said=$("$program" serve --db "$work/new.db" --volumes "$work" < /dev/null 2>&1) ||
     fail "$program cannot make a catalogue beside $new: ${said:-it says nothing}. Is there room?"
-# What is printed last says that nothing is missing. The lines of a client become rows of in_file at first: one that cannot be added is no more
-# than a line on standard error.
+# What is printed last says that nothing is missing. The lines of a client become rows of in_file at first: one that cannot be added is no
+# more than a line on standard error.
 if [ $kind = sqlite ]; then
     { cat "$here/stage.sql" && reading; } | exec_sqlite > /dev/null 2> "$work/said" &
 else
     tables=$(sed '/^--/d' "$here/stage.sql") moves=$(sed '/^--/d' "$here/lines.sql")
     reading | run_$kind |
-        exec_sqlite "$tables" BEGIN '.mode ascii' '.separator "\t" "\n"' '.import /dev/stdin in_file' "$moves" COMMIT > /dev/null 2> "$work/said" &
+        exec_sqlite "$tables" BEGIN '.mode ascii' '.separator "\t" "\n"' '.import /dev/stdin in_file' "$moves" COMMIT \
+            > /dev/null 2> "$work/said" &
 fi
 copied=0
 wait_for_step || copied=$?

@@ -1,6 +1,6 @@
--- Moves what the client of a server printed from in_file, into which all its lines came, to the other tables of stage.sql. A line has nine
--- fields with a tab between two. The first is its kind. Names are in the sixth, and more texts in the two after it. The second is a number, or
--- an array of them. The lines of files come last, but for one that says that nothing is missing.
+-- Moves what the client of a server printed from in_file, into which all its lines came, to the other tables of stage.sql. A line has
+-- nine fields with a tab between two. The first is its kind. The second is a number, or an array of them. Names are in the sixth, and
+-- more texts in the two after it. The lines of files come last, but for one that says that nothing is missing.
 CREATE TABLE bound(first INTEGER, last INTEGER);
 INSERT INTO bound
   SELECT ifnull((SELECT rowid FROM in_file WHERE kind IN ('file', 'plain') ORDER BY rowid LIMIT 1), max(rowid)), max(rowid) FROM in_file;

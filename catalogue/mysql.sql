@@ -1,6 +1,6 @@
 -- Reads Bacula's catalogue in MySQL or MariaDB, in one snapshot if its tables have transactions, and prints the lines that lines.sql takes.
--- import.sh replaces the words with an `@`. Of most rows of File it says that LStat is plain, and writes the digest in hexadecimal. These rows
--- are joined with their jobs: of `IN (SELECT ..)` the server would keep each row to see that it comes once.
+-- import.sh replaces the words with an `@`. Of most rows of File it says that LStat is plain, and writes the digest in hexadecimal.
+-- These rows are joined with their jobs: of `IN (SELECT ..)` the server would keep each row to see that it comes once.
 SET SESSION sql_select_limit = 18446744073709551615;
 SET SESSION sql_big_selects = 1;
 SET SESSION TRANSACTION ISOLATION LEVEL REPEATABLE READ;

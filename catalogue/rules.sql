@@ -190,10 +190,13 @@ INSERT INTO entry
       FROM (
         SELECT f.FileId, f.JobId, f.FileIndex, f.Filename, f.MD5, p.number, f.lstat,
           length(f.lstat) - length(replace(f.lstat, ' ', '')) AS spaces,
-          -- Words of 1 to 10 digits with a space between two.
-          f.FileIndex > 0 AND instr(f.lstat, '  ') = 0 AND substr(f.lstat, 1, 1) <> ' ' AND substr(f.lstat, -1) <> ' '
-            AND (f.kind = 'plain' OR instr(CAST(f.lstat AS BLOB), x'00') = 0 AND f.lstat NOT GLOB '*[^A-Za-z0-9+/ ]*'
-              AND ' ' || f.lstat NOT GLOB '* [^ ][^ ][^ ][^ ][^ ][^ ][^ ][^ ][^ ][^ ][^ ]*') AS is_plain,
+          -- Words of 1 to 10 digits with a space between two. CASE leaves out what an earlier line decides, as AND and OR do not.
+          CASE
+            WHEN f.FileIndex <= 0 OR instr(f.lstat, '  ') OR substr(f.lstat, 1, 1) = ' ' OR substr(f.lstat, -1) = ' ' THEN 0
+            WHEN f.kind = 'plain' THEN 1
+            ELSE f.lstat <> '' AND instr(CAST(f.lstat AS BLOB), x'00') = 0 AND f.lstat NOT GLOB '*[^A-Za-z0-9+/ ]*'
+              AND ' ' || f.lstat NOT GLOB '* [^ ][^ ][^ ][^ ][^ ][^ ][^ ][^ ][^ ][^ ][^ ]*'
+          END AS is_plain,
           -- 22 digits make 33 of hexadecimal, of which the last one is 0.
           CASE
             WHEN f.hex <> '' THEN f.hex

@@ -12,9 +12,10 @@ CREATE TABLE in_job(JobId INTEGER PRIMARY KEY, Type BLOB, Level BLOB, JobStatus 
 CREATE TABLE in_jobmedia(JobMediaId INTEGER PRIMARY KEY, JobId INTEGER, MediaId INTEGER, FirstIndex INTEGER, LastIndex INTEGER,
   StartFile INTEGER, EndFile INTEGER, StartBlock INTEGER, EndBlock INTEGER, VolIndex INTEGER);
 CREATE TABLE in_path(PathId INTEGER PRIMARY KEY, Path BLOB);
--- Only the rows of backups. Filename is `/` if its row is missing. Filename, LStat and MD5 are texts or blobs. `kind` is `file`, or `plain` if
--- LStat is known to be of digits and spaces, with at most ten digits in a row. `hex` is MD5 in hexadecimal, if that is known, or empty.
-CREATE TABLE in_file(kind TEXT, FileId INTEGER, FileIndex INTEGER, JobId INTEGER, PathId INTEGER, Filename BLOB, LStat BLOB, MD5 BLOB, hex TEXT);
+-- Only the rows of backups. Filename is `/` if its row is missing. Filename, LStat and MD5 are texts or blobs. `kind` is `file`, or `plain`
+-- if LStat is known to be of digits and spaces, with at most ten digits in a row. `hex` is MD5 in hexadecimal, if that is known, or empty.
+CREATE TABLE in_file(kind TEXT, FileId INTEGER, FileIndex INTEGER, JobId INTEGER, PathId INTEGER, Filename BLOB, LStat BLOB, MD5 BLOB,
+  hex TEXT);
 -- The number of file rows of other jobs, and of job numbers that no job has.
 CREATE TABLE in_count(JobId INTEGER PRIMARY KEY, files INTEGER);
 CREATE TABLE in_orphan(JobId INTEGER PRIMARY KEY, files INTEGER);

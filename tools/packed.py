@@ -20,7 +20,7 @@ FILES = {
     "share/man/man1/brestore.1": "share/man/man1/brestore.1",
     "share/bash-completion/completions/brestore": "share/bash-completion/completions/brestore",
     "share/doc/brestore/RESTORING.md": "docs/RESTORING.md",
-    **{f"share/brestore/catalogue/{it}": f"catalogue/{it}" for it in ("import.sh", "stage.sql", "pgsql.sql", "mysql.sql", "sqlite.sql", "rules.sql")},
+    **{f"share/brestore/catalogue/{it}": f"catalogue/{it}" for it in ("import.sh", "stage.sql", "pgsql.sql", "mysql.sql", "sqlite.sql", "lines.sql", "rules.sql")},
 }
 CONTROL = """Package: brestore
 Version: {version}
