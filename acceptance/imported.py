@@ -149,8 +149,8 @@ def is_killed(checks, source, folder, db):
     if source.name == "SQLite":
         path = with_own(folder, "sqlite3", f'case "$*" in *rows.db) {hangs} ;; esac')
     else:
-        # The statements that read the rows end with one that names this table.
-        path = with_own(folder, client_of(source), f'cat > {mark}.text; ! grep -q in_end {mark}.text || {hangs}; exec < {mark}.text')
+        # Only the statements that read the rows end a transaction.
+        path = with_own(folder, client_of(source), f'cat > {mark}.text; ! grep -q COMMIT {mark}.text || {hangs}; exec < {mark}.text')
     child = subprocess.Popen([SCRIPT, db, "--program", checks.program, *source.words], env={**os.environ, "PATH": path}, stdout=subprocess.PIPE, stderr=subprocess.PIPE)
     while not os.path.exists(mark) and child.poll() is None:
         time.sleep(0.01)
