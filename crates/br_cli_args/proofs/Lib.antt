@@ -1,2 +1,4 @@
 pub mod AppLaws
 pub mod WordsLaws
+mod SizeExamples
+mod WordsExamples
