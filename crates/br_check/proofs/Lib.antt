@@ -11,3 +11,4 @@ pub mod BlockLaws
 pub mod LaterLaws
 pub mod StepLaws
 pub mod PieceLaws
+mod FindingsExamples
