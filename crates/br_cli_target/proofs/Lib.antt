@@ -2,3 +2,4 @@ pub mod TarLaws
 pub mod OwnLaws
 pub mod OriginLaws
 pub mod AskingLaws
+mod AbsentExamples
