@@ -1,6 +1,8 @@
 -- The end of a run that extracts files.
 use Rattle.std.specs.Prelude.{ℕ, Bool, true, false, ◌&&◌, List, [], ◌++◌, map, Option, Some, None, Result, Ok, Err, if◌then◌else◌}
 use Rattle.br_check.specs.Findings.{empty_line}
+use Rattle.std.specs.Borrow.{Bor}
+use Rattle.br_model.specs.Bootstrap.{Group}
 use Rattle.br_model.specs.File.{Item}
 use Rattle.br_model.specs.Text.{is_empty}
 use Rattle.br_engine.specs.Fault.{fault_text}
@@ -13,6 +15,11 @@ use Rattle.br_engine.specs.declared.extracted.Extracted.{Extracted}
 use Rattle.br_sink.specs.KeepGoing.{InLeaving}
 use Rattle.br_cli_target.specs.declared.target_tar.PutExtent.{PutExtent}
 use Rattle.br_cli_target.specs.declared.target_tar.PutExtent.TheVariants.{All, Part}
+use Rattle.br_cli_target.specs.declared.target_tar.TarEnd.{TarEnd}
+use Rattle.br_cli_target.specs.Nothing.{asks_nothing}
+use Rattle.br_cli_target.specs.TarEnding.{tar_status}
+use Rattle.br_types.specs.declared.wanted.Gaps.{Gaps}
+use Rattle.br_types.specs.declared.wanted.Gaps.TheVariants.{Reported, Unreported}
 
 abbrev pub fault_status : ExtractFault → ℕ
 fault_status (Io e) = 3
@@ -45,6 +52,16 @@ failed_paths (Some sink) = map (λ (i : Item). i.path) sink.left
 abbrev pub run_status : Bool → Result Extracted ExtractFault → List (List ℕ) → ℕ
 run_status asks_nothing (Ok done) failed = done_status asks_nothing done failed
 run_status asks_nothing (Err fault) failed = fault_status fault
+
+-- whether missing files are to be reported, and the bootstrap has no group
+abbrev pub asks_in : Gaps → Option (Bor (List Group)) → Bool
+asks_in Reported bootstrap = asks_nothing bootstrap
+asks_in Unreported bootstrap = false
+
+-- the same with the end of the tar stream, if there is one: 1 if it could not be written
+abbrev pub told_status : Bool → Result Extracted ExtractFault → List (List ℕ) → Option TarEnd → ℕ
+told_status asks_nothing run failed None = run_status asks_nothing run failed
+told_status asks_nothing run failed (Some end) = tar_status (run_status asks_nothing run failed) end
 
 -- the number of files that a restore with this end put into its sink
 abbrev pub extent_by : RestoreEnd → PutExtent

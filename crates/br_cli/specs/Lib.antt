@@ -1,5 +1,6 @@
 pub mod Migrating
 pub mod ExtractEnding
+pub mod ExtractStarting
 pub mod ExtractTasks
 pub mod CheckCommand
 pub mod Explaining

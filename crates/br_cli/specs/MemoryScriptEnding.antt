@@ -1,5 +1,5 @@
 -- The end of a script.
-use Rattle.std.specs.Prelude.{◌≡◌, ◌⊎◌, ℕ, Result, Ok}
+use Rattle.std.specs.Prelude.{◌≡◌, ◌⊎◌, ℕ, Result, Ok, Err, IfOk}
 use Rattle.br_console.specs.declared.script.ScriptEnd.{ScriptEnd}
 use Rattle.br_console.specs.declared.script.ScriptEnd.TheVariants.{Clean, Refused}
 use Rattle.br_console.specs.declared.script_fault.ScriptFault.{ScriptFault}
@@ -16,3 +16,8 @@ IsStatusOf end status = (e : ScriptEnd) × (end ≡ Ok e) × (status ≡ script_
 -- this is an exit status of some script
 abbrev pub IsStatus : ℕ → Type 0
 IsStatus status = (status ≡ 0) ⊎ (status ≡ 1)
+
+-- a status is kept, and an error is passed on or is a refusal
+abbrev pub KeepsStatus : {E : Type 0} → Result ℕ E → Result ℕ E → Type 0
+KeepsStatus (Ok status) result = result ≡ Ok status
+KeepsStatus (Err why) result = IfOk result (λ status. status ≡ 1)

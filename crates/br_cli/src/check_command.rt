@@ -159,12 +159,15 @@ pub fn check_ending(alloc: Global, run: &Result<u8, ExtractFault>) -> Result<End
 }
 
 /// Prints the end of a check to standard error. Returns the exit status.
-fn report(rt: &HostRuntime, run: Result<u8, ExtractFault>) -> io::Result<u8> {
+fn report(rt: &HostRuntime, run: Result<u8, ExtractFault>) -> io::Result<u8>
+    ensures status { IfOk result (λ status. status ≡ run_status run) }
+{
     let ending = check_ending(rt.alloc(), &run)?;
     if let Err(fault) = &run {
         report_stream(rt, fault)?;
     }
-    ending.print(rt)
+    let status = ending.print(rt)?;
+    Ok(status)
 }
 
 /// Checks the bootstrap in a file over the volumes in a folder. Prints a line for each finding, the

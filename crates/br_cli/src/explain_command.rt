@@ -1,22 +1,36 @@
 //! The command `explain`.
-ghost use Rattle.std.specs.Prelude.{◌≡◌, IfOk};
+ghost use Rattle.std.specs.Prelude.{◌≡◌, flat_map, IfOk, OnOk};
+ghost use Rattle.std.specs.Io.KnownBytes.{Appends};
+ghost use Rattle.br_cli_common.specs.RefusalText.{refusal_text};
 ghost use Rattle.br_cli.specs.Explaining.{number_status};
 
 use br_cli_common::{
     BAD_COMMAND, CLEAN, Refusal, explain, push_refusals, refusals_below_50, refusals_from_50,
 };
-use br_engine::show;
+use br_engine::{Flush, show};
+use std::alloc::Global;
 use std::io;
+
+/// Writes rows of the table and flushes them.
+fn show_rows<W: Flush>(alloc: Global, writer: &mut W, rows: &[Refusal]) -> io::Result<()>
+    ensures written { OnOk result (Appends (W.contents writer.old) (W.contents writer.new) (flat_map refusal_text rows.now)) }
+    ensures flushed { OnOk result (W.is_flushed writer.new) }
+{
+    let mut text = Vec::new(alloc);
+    push_refusals(&mut text, rows)?;
+    show(writer, &text)?;
+    Ok(())
+}
 
 /// Prints rows of the table to standard output.
 fn print_rows<R: Print + AllocGlobal>(rt: &R, rows: &[Refusal]) -> io::Result<()> {
-    let mut text = Vec::new(rt.alloc());
-    push_refusals(&mut text, rows)?;
-    show(&mut io::writer(rt), &text)
+    show_rows(rt.alloc(), &mut io::writer(rt), rows)
 }
 
 /// Prints the meaning of all numbers. Returns the exit status.
-pub fn explain_all<R: Print + AllocGlobal>(rt: &R) -> io::Result<u8> {
+pub fn explain_all<R: Print + AllocGlobal>(rt: &R) -> io::Result<u8>
+    ensures { IfOk result (λ status. status ≡ 0) }
+{
     print_rows(rt, refusals_below_50())?;
     print_rows(rt, refusals_from_50())?;
     Ok(CLEAN)

@@ -4,7 +4,8 @@ ghost use Rattle.br_cli_common.specs.Options.{AreFew};
 ghost use Rattle.br_pool.specs.Pool.{AreDrives};
 ghost use Rattle.br_volume.specs.HostDrives.{AreOver};
 ghost use Rattle.br_cli_target.specs.AskedTarget.{folder_asked, stream_asked};
-ghost use Rattle.br_cli.specs.ExtractEnding.{done_status, extent, failed_paths, is_whole, run_refusal, run_status};
+ghost use Rattle.br_cli.specs.ExtractEnding.{asks_in, done_status, extent, failed_paths, is_whole, run_refusal, run_status, told_status};
+ghost use Rattle.br_cli.specs.ExtractStarting.{start_status};
 ghost use Rattle.br_cli_target.specs.TarEnding.{IsShown};
 ghost use Rattle.br_engine.specs.Restores.{change};
 ghost use Rattle.br_cli.specs.ExtractTasks.{ExtractsTo, StreamsTo};
@@ -84,6 +85,34 @@ pub fn extract_ending(
     Ok(Ending { status, refusal })
 }
 
+/// Returns true if missing files are to be reported, and the bootstrap has no group.
+fn is_nothing_asked(gaps: Gaps, told: &ToldOutcomes<'_>) -> bool
+    ensures { result ≡ asks_in gaps told.now.bootstrap }
+{
+    match gaps {
+        Gaps::Reported => told.asks_nothing(),
+        Gaps::Unreported => false,
+    }
+}
+
+/// Returns the exit status and the lines of a run and of its tar stream, if there is one.
+fn whole_ending(
+    alloc: Global,
+    asks_nothing: bool,
+    run: &Result<Extracted, ExtractFault>,
+    failed: &[Path],
+    end: Option<TarEnd>,
+) -> Result<Ending, AllocError>
+    ensures { IfOk result (λ ending. ending.status ≡ told_status asks_nothing run.now failed.now end) }
+{
+    let mut ending = extract_ending(alloc, asks_nothing, run, failed)?;
+    let Some(end) = end else {
+        return Ok(ending);
+    };
+    add_tar_end(&mut ending, end)?;
+    Ok(ending)
+}
+
 /// Prints to standard error that a stream failed, if one did. If memory ran out, returns the error.
 pub(crate) fn report_stream<R: Eprint>(rt: &R, fault: &ExtractFault) -> io::Result<()> {
     match fault {
@@ -128,13 +157,14 @@ fn report(
     given: &ExtractOptions<'_>,
     told: &ToldOutcomes<'_>,
     run: &Result<Extracted, ExtractFault>,
-    (failed, end): (&[Path], Option<TarEnd>),
-) -> io::Result<u8> {
-    let asks_nothing = given.wanted.gaps == Gaps::Reported && told.asks_nothing();
-    let mut ending = extract_ending(rt.alloc(), asks_nothing, run, failed)?;
-    if let Some(end) = end {
-        add_tar_end(&mut ending, end)?;
-    }
+    left: (&[Path], Option<TarEnd>),
+) -> io::Result<u8>
+    ensures status { IfOk result (λ status.
+        status ≡ told_status (asks_in given.now.wanted.gaps told.now.bootstrap) run.now left.entry.0.now left.entry.1) }
+{
+    let (failed, end) = left;
+    let asks_nothing = is_nothing_asked(given.wanted.gaps, told);
+    let ending = whole_ending(rt.alloc(), asks_nothing, run, failed, end)?;
     if let Err(fault) = run {
         tell_stream(rt, gauge, fault)?;
     }
@@ -312,7 +342,9 @@ fn set_up_over<'r, 'p, S: Drop>(
 }
 
 /// Prints why no restore began to standard error. Returns the exit status.
-pub(crate) fn refuse(rt: &HostRuntime, bsr: &str, fault: ExtractStartFault) -> io::Result<u8> {
+pub(crate) fn refuse(rt: &HostRuntime, bsr: &str, fault: ExtractStartFault) -> io::Result<u8>
+    ensures { IfOk result (λ status. status ≡ start_status fault) }
+{
     match fault {
         ExtractStartFault::Folder(fault) => refuse_start(rt, fault.number()),
         ExtractStartFault::Tar(fault) => refuse_start(rt, fault.number()),
@@ -331,7 +363,9 @@ fn refuse_told(
     gauge: &Gauge<'_>,
     given: &ExtractOptions<'_>,
     fault: ExtractStartFault,
-) -> io::Result<u8> {
+) -> io::Result<u8>
+    ensures { IfOk result (λ status. status ≡ start_status fault) }
+{
     match fault {
         ExtractStartFault::Folder(fault) => {
             refuse_place(rt, gauge, given.target, fault.number())

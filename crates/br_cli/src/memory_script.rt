@@ -1,6 +1,6 @@
 //! The command `serve` in memory, which the program also runs without a command.
 ghost use Rattle.std.specs.Prelude.{◌≡◌, IfOk};
-ghost use Rattle.br_cli.specs.MemoryScriptEnding.{IsStatus, IsStatusOf, script_status};
+ghost use Rattle.br_cli.specs.MemoryScriptEnding.{IsStatus, IsStatusOf, KeepsStatus, script_status};
 
 use br_cli_common::{CLEAN, REFUSED};
 use br_console::{ScriptEnd, ScriptFault, run_script};
@@ -67,14 +67,16 @@ fn run_input<R: Input + Print + AllocGlobal>(
 /// printed as the last line.
 pub(crate) fn refuse_memory<R: Print>(rt: &R, status: io::Result<u8>) -> io::Result<u8>
     requires { IfOk status IsStatus }
-    ensures { IfOk result IsStatus }
+    ensures known { IfOk result IsStatus }
+    ensures kept { KeepsStatus status result }
 {
     match status {
+        Ok(status) => Ok(status),
         Err(e) if e.kind() == ErrorKind::OutOfMemory => {
             println!(rt; "refused 1")?;
             Ok(REFUSED)
         }
-        status => status,
+        Err(e) => Err(e),
     }
 }
 

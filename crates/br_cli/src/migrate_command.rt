@@ -2,7 +2,7 @@
 ghost use Rattle.std.specs.Prelude.{[], ◌≡◌, ◌++◌, IfOk, OnOk};
 ghost use Rattle.std.specs.Io.KnownBytes.{Appends};
 ghost use Rattle.br_cli.specs.MemoryScriptEnding.{IsStatus};
-ghost use Rattle.br_cli.specs.Migrating.{migrated_line};
+ghost use Rattle.br_cli.specs.Migrating.{migrated_line, migrated_status};
 
 use br_cli_common::{CLEAN, refuse_start};
 use br_engine::{Flush, show};
@@ -48,6 +48,26 @@ fn migrate_file<C: Catalogue>(
     catalogue.migrate(db)
 }
 
+/// Prints the line of a catalogue that was migrated, or its refusal to standard error. Returns the
+/// exit status. The text, which is empty, has room for the line.
+fn end_migration(
+    rt: &HostRuntime,
+    text: Vec<u8>,
+    migrated: Result<u64, CatalogueFault>,
+) -> io::Result<u8>
+    requires empty { text.items ≡ [] }
+    ensures known { IfOk result IsStatus }
+    ensures status { IfOk result (λ status. status ≡ migrated_status migrated) }
+{
+    match migrated {
+        Ok(jobs) => {
+            show_migrated(text, &mut io::writer(rt), jobs)?;
+            Ok(CLEAN)
+        }
+        Err(fault) => refuse_start(rt, fault.number()),
+    }
+}
+
 /// Changes the catalogue of version 1 in a file to version 2, and prints `migrated N`, the number
 /// of its jobs. A refusal (45, 47) goes to standard error. Returns the exit status, 1 if there was
 /// a refusal.
@@ -60,11 +80,5 @@ pub fn migrate_catalogue<C: Catalogue>(rt: &HostRuntime, catalogue: &C, db: &str
 {
     // Memory for the line is taken first, so that nothing is refused after the file was migrated.
     let text = Vec::with_capacity(rt.alloc(), MOST_BYTES)?;
-    match migrate_file(rt, catalogue, db) {
-        Ok(jobs) => {
-            show_migrated(text, &mut io::writer(rt), jobs)?;
-            Ok(CLEAN)
-        }
-        Err(fault) => refuse_start(rt, fault.number()),
-    }
+    end_migration(rt, text, migrate_file(rt, catalogue, db))
 }

@@ -1,5 +1,6 @@
 //! The command `serve` over a catalogue in a file and volumes in a folder.
 ghost use Rattle.std.specs.Prelude.{◌≡◌, IfErr, IfOk};
+ghost use Rattle.std.specs.Result.{IsErr};
 ghost use Rattle.br_console.specs.ScriptDeeds.{DoesSome};
 ghost use Rattle.br_cli.specs.MemoryScriptEnding.{IsStatus};
 ghost use Rattle.br_cli.specs.FolderVolumes.{IsFolder};
@@ -128,6 +129,27 @@ pub fn serve_over<C: JobStore, V: DrivenStore, R: BufRead, W: Flush>(
     (keeper, flushed_end(end, writer))
 }
 
+/// Prints why a catalogue was not closed after a script that ended with this status. Returns the
+/// exit status of the command.
+///
+/// # Errors
+///
+/// That of the script, or if standard error failed.
+fn refuse_unclosed(
+    rt: &HostRuntime,
+    fault: CatalogueFault,
+    status: io::Result<u8>,
+) -> io::Result<u8>
+    ensures refused { IfOk result (λ code. code ≡ 1) }
+    ensures passed { IfErr status (λ _. IsErr result) }
+{
+    let refused = refuse_start(rt, fault.number())?;
+    match status {
+        Ok(_) => Ok(refused),
+        Err(e) => Err(e),
+    }
+}
+
 /// Writes all jobs into the file of the catalogue, after a script that ended with this status.
 /// Returns the exit status of the command, which is that of the script unless the catalogue
 /// refuses.
@@ -147,10 +169,7 @@ fn end_serve<C: Catalogue>(
 {
     match catalogue.close(jobs) {
         Ok(()) => status,
-        Err(fault) => {
-            let refused = refuse_start(rt, fault.number())?;
-            status.map(|_| refused)
-        }
+        Err(fault) => refuse_unclosed(rt, fault, status),
     }
 }
 

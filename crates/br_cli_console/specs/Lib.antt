@@ -6,3 +6,4 @@ pub mod ConsoleTasks
 pub mod LoadedJobs
 pub mod LocalCommands
 pub mod DirLines
+pub mod ListedJobs

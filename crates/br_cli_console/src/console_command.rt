@@ -145,10 +145,13 @@ fn report(
     rt: &HostRuntime,
     gauge: &Gauge<'_>,
     given: &ConsoleOptions<'_>,
-    (told, failed): (&ToldOutcomes<'_>, Option<&Path>),
+    noted: (&ToldOutcomes<'_>, Option<&Path>),
     run: &Result<ConsoleRun, ConsoleFault>,
     ending: &Ending,
-) -> io::Result<u8> {
+) -> io::Result<u8>
+    ensures { IfOk result (λ status. status ≡ ending.now.status) }
+{
+    let (told, failed) = noted;
     if let Err(fault) = run {
         tell_stream(rt, gauge, fault)?;
     }
@@ -375,7 +378,9 @@ fn refuse_setup<C: Catalogue>(
     gauge: &Gauge<'_>,
     given: &ConsoleOptions<'_>,
     fault: &ConsoleStartFault,
-) -> io::Result<u8> {
+) -> io::Result<u8>
+    ensures { IfOk result (λ status. status ≡ 1) }
+{
     let status = refuse_place(rt, gauge, given.target, fault.number())?;
     if let ConsoleStartFault::Catalogue(CatalogueFault::BadCatalogue) = fault {
         gauge.tell_lines(catalogue.wrong_rows(given.db))?;

@@ -1,7 +1,10 @@
 ghost use Rattle.std.specs.Prelude.{◌≡◌, ◌⊎◌, not, IfOk};
+ghost use Rattle.br_model.specs.Answer.{AnswersAlways};
 ghost use Rattle.br_model.specs.Text.{is_empty};
+ghost use Rattle.br_plan.specs.Fault.{moment_number};
 ghost use Rattle.br_jobs.specs.JobMarks.{marks};
 ghost use Rattle.br_cli_console.specs.ChosenJobs.{list_status, warned_status};
+ghost use Rattle.br_cli_console.specs.ListedJobs.{EndsList, before_asked, filter_asked};
 ghost use Rattle.br_cli_console.specs.LoadedJobs.{lists_all, rows_for};
 
 use crate::loaded_jobs::jobs_in;
@@ -9,18 +12,32 @@ use crate::time_zone::SystemZones;
 use br_cli_common::{
     CLEAN, Clock, FileRows, JobsOptions, REFUSED, is_shown, refuse_start, show_lines,
 };
+use br_engine::show;
 use br_history::History;
 use br_jobs::{Filter, Zones, list_jobs, marked_lines};
 use br_keeper::{Catalogue, CatalogueFault};
 use br_plan::{BadMoment, read_moment};
-use std::io::{self, IsTerminal, Write};
+use std::io::{self, IsTerminal};
+
+/// Reads the moment before which jobs are listed, if one is given.
+fn read_before(given: Option<&str>) -> Result<Option<u64>, BadMoment>
+    ensures { AnswersAlways (λ before. before) moment_number result (before_asked given.entry) }
+{
+    match given {
+        Some(text) => {
+            let moment = read_moment(text.as_bytes())?;
+            Ok(Some(moment))
+        }
+        None => Ok(None),
+    }
+}
 
 /// Returns the choice of jobs in these options.
-fn filter_of<'a>(given: &JobsOptions<'a>) -> Result<Filter<'a>, BadMoment> {
-    let before = match given.before {
-        Some(text) => Some(read_moment(text.as_bytes())?),
-        None => None,
-    };
+#[tactic(auto, unfolding(crate::specs::ListedJobs::filter_asked))]
+fn filter_of<'a>(given: &JobsOptions<'a>) -> Result<Filter<'a>, BadMoment>
+    ensures { AnswersAlways (λ filter. filter) moment_number result (filter_asked given.now) }
+{
+    let before = read_before(given.before)?;
     Ok(Filter {
         client: given.client,
         fileset: given.fileset,
@@ -43,9 +60,7 @@ fn print_lines(rt: &HostRuntime, zones: &Zones<'_>, text: &[u8]) -> io::Result<(
             Zones::UtcAndLocal(_) => eprintln!(rt; "{LOCAL_HEADS}")?,
         }
     }
-    let mut writer = io::writer(rt);
-    writer.write_all(text)?;
-    writer.flush()
+    show(&mut io::writer(rt), text)
 }
 
 /// Returns true if all jobs are asked for.
@@ -123,6 +138,22 @@ fn print_local_jobs(rt: &HostRuntime, history: &History, filter: &Filter<'_>) ->
     print_jobs(rt, history, filter, &zones)
 }
 
+/// Prints the lines of the jobs with moments in UTC, or in UTC and in the time zone of the system.
+/// Returns the exit status.
+fn print_by(
+    rt: &HostRuntime,
+    history: &History,
+    filter: &Filter<'_>,
+    clock: Clock,
+) -> io::Result<u8>
+    ensures status { IfOk result (λ status. status ≡ list_status (marks history.now filter.now)) }
+{
+    match clock {
+        Clock::Utc => print_jobs(rt, history, filter, &Zones::Utc),
+        Clock::UtcAndLocal => print_local_jobs(rt, history, filter),
+    }
+}
+
 /// Prints why a catalogue is refused, and to a terminal which of its rows is wrong, if that is why.
 /// Returns the exit status.
 fn refuse_catalogue<C: Catalogue>(
@@ -154,7 +185,8 @@ pub fn list<C: Catalogue>(
     catalogue: &C,
     given: &JobsOptions<'_>,
 ) -> io::Result<u8>
-    ensures status { IfOk result (λ status. (status ≡ 0) ⊎ (status ≡ 1)) }
+    ensures known { IfOk result (λ status. (status ≡ 0) ⊎ (status ≡ 1)) }
+    ensures status { IfOk result (EndsList (C.jobs_at catalogue.now given.now.db.now) given.now) }
 {
     let filter = match filter_of(given) {
         Ok(filter) => filter,
@@ -165,8 +197,6 @@ pub fn list<C: Catalogue>(
         Ok(history) => history,
         Err(fault) => return refuse_catalogue(rt, catalogue, given.db, fault),
     };
-    match given.clock {
-        Clock::Utc => print_jobs(rt, &history, &filter, &Zones::Utc),
-        Clock::UtcAndLocal => print_local_jobs(rt, &history, &filter),
-    }
+    let status = print_by(rt, &history, &filter, given.clock)?;
+    Ok(status)
 }

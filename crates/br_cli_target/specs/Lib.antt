@@ -7,3 +7,4 @@ pub mod FirstAsking
 pub mod OwnHits
 pub mod AttributePaths
 pub mod Origins
+pub mod Nothing

@@ -1,3 +1,5 @@
+ghost use Rattle.std.specs.Prelude.{◌≡◌, IfOk};
+
 use br_cli_common::tell_refusals;
 use std::io;
 
@@ -12,7 +14,9 @@ pub struct Ending {
 impl Ending {
     /// Prints the line of the refusal to standard error, and explains it to a terminal. Returns the
     /// exit status.
-    pub fn print(&self, rt: &HostRuntime) -> io::Result<u8> {
+    pub fn print(&self, rt: &HostRuntime) -> io::Result<u8>
+        ensures { IfOk result (λ status. status ≡ self.now.status) }
+    {
         let refusal = String::from_utf8_lossy(rt.alloc(), &self.refusal)?;
         eprint!(rt; "{refusal}")?;
         tell_refusals(rt, &self.refusal)?;

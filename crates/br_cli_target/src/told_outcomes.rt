@@ -1,4 +1,6 @@
 //! Reports on the outcomes of a restore, to a terminal and a log.
+ghost use Rattle.std.specs.Prelude.{◌≡◌};
+ghost use Rattle.br_cli_target.specs.Nothing.{asks_nothing};
 
 use crate::absent_count::count_absent;
 use crate::advice_lines::{push_absent, push_older, push_origin};
@@ -36,7 +38,9 @@ impl<'t> ToldOutcomes<'t> {
     pub fn by<W>(
         writer: &'t WatchedWriter<'_, '_, W>,
         bootstrap: Option<&'t Bootstrap>,
-    ) -> ToldOutcomes<'t> {
+    ) -> ToldOutcomes<'t>
+        ensures { result.bootstrap ≡ bootstrap.entry }
+    {
         ToldOutcomes {
             faults: writer.faults(),
             keys: writer.keys(),
@@ -45,7 +49,9 @@ impl<'t> ToldOutcomes<'t> {
     }
 
     /// Returns true if there was a bootstrap, and it has no group.
-    pub fn asks_nothing(&self) -> bool {
+    pub fn asks_nothing(&self) -> bool
+        ensures { result ≡ asks_nothing self.now.bootstrap }
+    {
         match self.bootstrap {
             Some(bootstrap) => bootstrap.groups().is_empty(),
             None => false,

@@ -1,5 +1,6 @@
 //! Reports in words, to a terminal and a log, besides what the commands print.
-ghost use Rattle.std.specs.Prelude.{◌≡◌, ◌||◌, ◌==◌};
+ghost use Rattle.std.specs.Prelude.{◌≡◌, ◌||◌, ◌==◌, IfOk};
+ghost use Rattle.std.specs.Result.{IsErr};
 ghost use Rattle.br_pool.specs.Fault.{fault_number};
 
 use br_cli_common::{
@@ -208,7 +209,10 @@ pub fn refuse_place(
     gauge: &Gauge<'_>,
     target: Target<'_>,
     number: u32,
-) -> io::Result<u8> {
+) -> io::Result<u8>
+    ensures status { IfOk result (λ status. status ≡ 1) }
+    ensures memory { number ≡ 1 → IsErr result }
+{
     gauge.log_refusals(format!(in rt.alloc(); "refused {number}\n")?.as_bytes());
     let status = refuse_start(rt, number)?;
     if number == 81 {

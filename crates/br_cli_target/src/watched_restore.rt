@@ -31,7 +31,9 @@ pub fn gauge_of<'r>(
 
 /// Prints to standard error that the file of a log can't be opened. Returns the exit status. If
 /// memory ran out, returns the error.
-pub fn refuse_log(rt: &HostRuntime, log: Option<&str>, error: io::Error) -> io::Result<u8> {
+pub fn refuse_log(rt: &HostRuntime, log: Option<&str>, error: io::Error) -> io::Result<u8>
+    ensures { IfOk result (λ status. status ≡ 3) }
+{
     match log {
         Some(path) if error.kind() != ErrorKind::OutOfMemory => {
             eprintln!(rt; "brestore: {path}: {error}")?;
