@@ -31,4 +31,3 @@ nothing_is_missing = refl
 range_of_one_index : missing_in group keys (range 6 6) ≡ range 6 6 ∷ []
 unfolding missing_in is_there ranges_of
 range_of_one_index = refl
-
