@@ -1,5 +1,5 @@
 //! Scripts, line by line.
-ghost use Rattle.std.specs.Prelude.{◌≡◌, ◌≤◌, Err, IfErr, OnOk};
+ghost use Rattle.std.specs.Prelude.{◌≡◌, ◌≤◌, Err, IfErr, IfOk, OnOk};
 ghost use Rattle.br_console.specs.ScriptDeeds.{AppendsRaw, Does, DoesFew, DoesSome};
 ghost use Rattle.br_console.specs.ScriptAnswering.{refusal_at};
 ghost use Rattle.br_console.specs.ScriptKeeper.{IsOwn, SeesMore};
@@ -181,6 +181,7 @@ impl<C: JobStore, V: DrivenStore> Script<C, V> {
         requires own { IsOwn self.old.desk.session self.old.desk.keeper }
         ensures own { IsOwn self.new.desk.session self.new.desk.keeper }
         ensures endless { IfErr result EndlessAfterAll }
+        ensures ended { IfOk result (λ end. end ≡ self.new.end) }
         ensures does { Does C.inserts C.refuses V.holds V.failures self.new.desk.session self.old.desk.keeper self.new.desk.keeper }
     {
         let mut lines = InputLines::new(reader);
