@@ -9,6 +9,7 @@ ghost use Rattle.br_console.specs.ScriptJobs.{GivesUp};
 ghost use Rattle.br_console.specs.ScriptLine.{drives_after, drives_by, line_said, said};
 ghost use Rattle.br_console.specs.ScriptObeying.{AppendsBy, CarriesOut, Obeys, TakesOutside, number_of};
 ghost use Rattle.br_console.specs.declared.script.ScriptEnd.TheVariants.{Refused};
+ghost use Rattle.br_console.specs.declared.script_input.LineReading.TheVariants.{Line};
 
 use crate::driven_store::DrivenStore;
 use crate::forgetful::Forgetful;
@@ -160,7 +161,7 @@ impl<C: JobStore, V: DrivenStore> Script<C, V> {
         ensures turns { OnOk result (lines.old.turns ≤ lines.new.turns) }
         ensures few { DoesFew C.inserts C.refuses V.holds V.failures self.new.desk.session self.old.desk.keeper self.new.desk.keeper }
         ensures lost { reading ≡ LineReading.NoMemory → GivesUp self.old.draft self.new.draft }
-        ensures carries { reading ≡ LineReading.Line → CarriesOut C.JobStore V.VolumeStore W.Write self.old self.new
+        ensures carries { reading ≡ Line → CarriesOut C.JobStore V.VolumeStore W.Write self.old self.new
             writer.old writer.new lines.old.number result line.now }
     {
         match reading {
