@@ -1,9 +1,9 @@
 -- The effect of the lines outside of a job.
 use Rattle.std.specs.Prelude.{◌≡◌, ℕ, ◌⊎◌, List, Option, Some, None, MatchOption, Result, Ok, Err}
 use Rattle.std.specs.Io.KnownBytes.{Keeps}
-use Rattle.std.specs.declared.io.Write as write
 use Rattle.br_model.specs.Answer.{Answers, IsRefusal}
 use Rattle.br_model.specs.Text.{refused_line}
+use Rattle.br_model.specs.Job.{JobRows}
 use Rattle.br_model.specs.Volume.{Volume}
 use Rattle.br_model.specs.Bootstrap.{Group}
 use Rattle.br_model.specs.BootstrapText.{read_bootstrap}
@@ -12,8 +12,6 @@ use Rattle.br_bsr.specs.declared.fault.BsrFault.{BsrFault}
 use Rattle.br_engine.specs.declared.fault.ExtractFault.TheVariants as of_extract
 use Rattle.br_types.specs.LineFault.{line_cause}
 use Rattle.br_volume.specs.Store.{Failures}
-use Rattle.br_volume.specs.declared.volume_store.VolumeStore as store
-use Rattle.br_keeper.specs.declared.job_store.JobStore as jobs
 use Rattle.br_types.specs.declared.line_fault.LineFault.{LineFault}
 use Rattle.br_types.specs.declared.line_fault.LineFault.TheVariants.{Memory, BadScript}
 use Rattle.br_console.specs.ScriptAnswering.{refusal_at}
@@ -73,8 +71,8 @@ TakesOutside holds failures old new before after place result line =
     ⊎ ((asked : Said) × (line_said line ≡ Ok asked) × Obeys holds failures old new before after place result asked)
 
 -- a line is taken by the job that it is in, else by the script
-abbrev pub CarriesOut : {C V W : Type 0} → jobs.Ghosts C → store.Ghosts V → write.Ghosts W → Script C V → Script C V → W → W → ℕ
-    → Result (Unit {0}) ScriptFault → List ℕ → Type 0
-CarriesOut c v w old new before after place result line =
-    MatchOption old.draft (TakesOutside v.holds v.failures old new (w.contents before) (w.contents after) place result line)
-    (λ d. DraftTakes c.inserts c.refuses v.holds v.failures w.contents old new before after place result line d)
+abbrev pub CarriesOut : {C V W : Type 0} → (JobRows → C → C → Type 0) → (JobRows → C → C → Type 0) → (V → Option (List Volume)) → (V → Failures)
+    → (W → Option (List ℕ)) → Script C V → Script C V → W → W → ℕ → Result (Unit {0}) ScriptFault → List ℕ → Type 0
+CarriesOut inserts refuses holds failures contents old new before after place result line =
+    MatchOption old.draft (TakesOutside holds failures old new (contents before) (contents after) place result line)
+    (λ d. DraftTakes inserts refuses holds failures contents old new before after place result line d)

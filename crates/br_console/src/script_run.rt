@@ -1,5 +1,5 @@
 //! Scripts, line by line.
-ghost use Rattle.std.specs.Prelude.{◌≡◌, ◌≤◌, Err, IfErr, IfOk, OnOk};
+ghost use Rattle.std.specs.Prelude.{◌≡◌, ◌≤◌, Err, IfErr, OnOk};
 ghost use Rattle.br_console.specs.ScriptDeeds.{AppendsRaw, Does, DoesFew, DoesSome};
 ghost use Rattle.br_console.specs.ScriptAnswering.{refusal_at};
 ghost use Rattle.br_console.specs.ScriptKeeper.{IsOwn, SeesMore};
@@ -9,7 +9,6 @@ ghost use Rattle.br_console.specs.ScriptJobs.{GivesUp};
 ghost use Rattle.br_console.specs.ScriptLine.{drives_after, drives_by, line_said, said};
 ghost use Rattle.br_console.specs.ScriptObeying.{AppendsBy, CarriesOut, Obeys, TakesOutside, number_of};
 ghost use Rattle.br_console.specs.declared.script.ScriptEnd.TheVariants.{Refused};
-ghost use Rattle.br_console.specs.declared.script_input.LineReading.TheVariants.{Line};
 
 use crate::driven_store::DrivenStore;
 use crate::forgetful::Forgetful;
@@ -136,7 +135,7 @@ impl<C: JobStore, V: DrivenStore> Script<C, V> {
         ensures sees { SeesMore self.old.desk.session self.new.desk.session }
         ensures turns { OnOk result (lines.old.turns ≤ lines.new.turns) }
         ensures few { DoesFew C.inserts C.refuses V.holds V.failures self.new.desk.session self.old.desk.keeper self.new.desk.keeper }
-        ensures carries { CarriesOut C.JobStore V.VolumeStore W.Write self.old self.new writer.old writer.new
+        ensures carries { CarriesOut C.inserts C.refuses V.holds V.failures W.contents self.old self.new writer.old writer.new
             lines.old.number result line.now }
     {
         match self.draft.take() {
@@ -161,8 +160,8 @@ impl<C: JobStore, V: DrivenStore> Script<C, V> {
         ensures turns { OnOk result (lines.old.turns ≤ lines.new.turns) }
         ensures few { DoesFew C.inserts C.refuses V.holds V.failures self.new.desk.session self.old.desk.keeper self.new.desk.keeper }
         ensures lost { reading ≡ LineReading.NoMemory → GivesUp self.old.draft self.new.draft }
-        ensures carries { reading ≡ Line → CarriesOut C.JobStore V.VolumeStore W.Write self.old self.new
-            writer.old writer.new lines.old.number result line.now }
+        ensures carries { reading ≡ LineReading.Line → CarriesOut C.inserts C.refuses V.holds V.failures W.contents
+            self.old self.new writer.old writer.new lines.old.number result line.now }
     {
         match reading {
             LineReading::Line => self.carry_out(rt, line, lines, writer),
@@ -182,7 +181,6 @@ impl<C: JobStore, V: DrivenStore> Script<C, V> {
         requires own { IsOwn self.old.desk.session self.old.desk.keeper }
         ensures own { IsOwn self.new.desk.session self.new.desk.keeper }
         ensures endless { IfErr result EndlessAfterAll }
-        ensures ended { IfOk result (λ end. end ≡ self.new.end) }
         ensures does { Does C.inserts C.refuses V.holds V.failures self.new.desk.session self.old.desk.keeper self.new.desk.keeper }
     {
         let mut lines = InputLines::new(reader);
