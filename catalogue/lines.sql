@@ -3,14 +3,14 @@
 -- more texts in the two after it. The lines of files come last, but for one that says that nothing is missing.
 CREATE TABLE bound(first INTEGER, last INTEGER);
 INSERT INTO bound
-  SELECT ifnull((SELECT rowid FROM in_file WHERE kind IN ('file', 'plain') ORDER BY rowid LIMIT 1), max(rowid)), max(rowid) FROM in_file;
+  SELECT ifnull((SELECT rowid FROM in_file WHERE kind IN ('file', 'plain', 'usual') ORDER BY rowid LIMIT 1), max(rowid)), max(rowid) FROM in_file;
 
 -- A backslash and a letter stand for a backslash, and for a byte that would end a field.
 CREATE TABLE escaped(id INTEGER, field INTEGER, text TEXT, PRIMARY KEY (id, field)) WITHOUT ROWID;
 INSERT INTO escaped
   SELECT f.rowid, n, CASE n WHEN 1 THEN Filename WHEN 2 THEN LStat ELSE MD5 END
   FROM in_file f CROSS JOIN (SELECT 1 AS n UNION ALL SELECT 2 UNION ALL SELECT 3)
-  WHERE instr(Filename, '\') OR kind <> 'plain' AND (instr(LStat, '\') OR instr(MD5, '\'));
+  WHERE instr(Filename, '\') OR kind = 'file' AND (instr(LStat, '\') OR instr(MD5, '\'));
 UPDATE escaped SET text = replace(replace(replace(replace(replace(replace(replace(replace(replace(text, '\\', '\' || char(1)),
   '\b', char(8)), '\t', char(9)), '\n', char(10)), '\v', char(11)), '\f', char(12)), '\r', char(13)), '\0', CAST(x'00' AS TEXT)),
   '\' || char(1), '\');

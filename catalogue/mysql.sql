@@ -1,5 +1,5 @@
 -- Reads Bacula's catalogue in MySQL or MariaDB, in one snapshot if its tables have transactions, and prints the lines that lines.sql takes.
--- import.sh replaces the words with an `@`. Of most rows of File it says that LStat is plain, and writes the digest in hexadecimal.
+-- import.sh replaces the words with an `@`. Of most rows of File it says that LStat is usual or plain, and writes the digest in hexadecimal.
 -- These rows are joined with their jobs: of `IN (SELECT ..)` the server would keep each row to see that it comes once.
 SET SESSION sql_select_limit = 18446744073709551615;
 SET SESSION sql_big_selects = 1;
@@ -32,8 +32,15 @@ SELECT 'orphan', f.JobId, count(*), 0, 0, '', '', '', ''
   FROM @File f LEFT JOIN @Job j ON j.JobId = f.JobId
   WHERE @all@ = 1 AND j.JobId IS NULL
   GROUP BY f.JobId;
-SELECT if(CONVERT(f.LStat USING latin1) COLLATE latin1_bin REGEXP _latin1'[^A-Za-z0-9+/ ]|[^ ]{11}', 'file', 'plain'), f.FileId, f.FileIndex,
-    f.JobId, f.PathId, CAST(ifnull(@name@, '/') AS BINARY), CAST(ifnull(f.LStat, '') AS BINARY), CAST(ifnull(f.MD5, '') AS BINARY),
+SELECT
+    CASE
+      WHEN CONVERT(f.LStat USING latin1) COLLATE latin1_bin REGEXP _latin1'[^A-Za-z0-9+/ ]|[^ ]{11}' THEN 'file'
+      WHEN CONVERT(right(f.LStat, 4) USING latin1) COLLATE latin1_bin REGEXP _latin1'^ [^ ] [ACG]$'
+        AND length(f.LStat) - length(replace(f.LStat, ' ', '')) = 15 AND instr(f.LStat, '  ') = 0 AND left(f.LStat, 1) <> ' '
+        AND length(substring_index(substring_index(f.LStat, ' ', 8), ' ', -1)) <= 5 THEN 'usual'
+      ELSE 'plain'
+    END, f.FileId, f.FileIndex, f.JobId, f.PathId,
+    CAST(ifnull(@name@, '/') AS BINARY), CAST(ifnull(f.LStat, '') AS BINARY), CAST(ifnull(f.MD5, '') AS BINARY),
     if(length(f.MD5) = 22 AND to_base64(from_base64(concat(f.MD5, '=='))) = concat(f.MD5, '=='),
       lower(hex(from_base64(concat(f.MD5, '==')))), '')
   FROM @File f JOIN @Job j ON j.JobId = f.JobId LEFT JOIN @Client c ON c.ClientId = j.ClientId

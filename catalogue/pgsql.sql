@@ -1,5 +1,5 @@
 -- Reads Bacula's catalogue in PostgreSQL, in one snapshot, and prints the lines that lines.sql takes. import.sh replaces the words with an
--- `@`. Of most rows of File it says that LStat is plain, and writes the digest in hexadecimal.
+-- `@`. Of most rows of File it says that LStat is usual or plain, and writes the digest in hexadecimal.
 BEGIN TRANSACTION ISOLATION LEVEL REPEATABLE READ READ ONLY;
 COPY (SELECT 'client', ClientId, 0, 0, 0, coalesce(Name, ''), '', '', '' FROM @Client) TO STDOUT;
 COPY (SELECT 'fileset', FileSetId, 0, 0, 0, coalesce(FileSet, ''), '', '', '' FROM @FileSet) TO STDOUT;
@@ -29,7 +29,13 @@ COPY (SELECT 'orphan', f.JobId, count(*), 0, 0, '', '', '', ''
   FROM @File f LEFT JOIN @Job j ON j.JobId = f.JobId
   WHERE @all@ = 1 AND j.JobId IS NULL
   GROUP BY f.JobId) TO STDOUT;
-COPY (SELECT CASE WHEN f.LStat !~ '[^A-Za-z0-9+/ ]|[^ ]{11}' THEN 'plain' ELSE 'file' END, f.FileId, f.FileIndex, f.JobId, f.PathId,
+COPY (SELECT
+    CASE
+      WHEN f.LStat ~ '[^A-Za-z0-9+/ ]|[^ ]{11}' THEN 'file'
+      WHEN right(f.LStat, 4) ~ '^ [^ ] [ACG]$' AND length(f.LStat) - length(replace(f.LStat, ' ', '')) = 15 AND strpos(f.LStat, '  ') = 0
+        AND left(f.LStat, 1) <> ' ' AND length(split_part(f.LStat, ' ', 8)) <= 5 THEN 'usual'
+      ELSE 'plain'
+    END, f.FileId, f.FileIndex, f.JobId, f.PathId,
     coalesce(@name@, '/'), coalesce(f.LStat, ''), coalesce(f.MD5, ''),
     CASE WHEN length(f.MD5) = 22 AND f.MD5 !~ '[^A-Za-z0-9+/]' AND right(f.MD5, 1) IN ('A', 'Q', 'g', 'w')
       THEN encode(decode(f.MD5 || '==', 'base64'), 'hex') ELSE '' END

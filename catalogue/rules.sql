@@ -152,14 +152,41 @@ INSERT INTO pair
     SELECT n + 1, substr('ABCDEFGHIJKLMNOPQRSTUVWXYZabcdefghijklmnopqrstuvwxyz0123456789+/', n + 2, 1) FROM digit WHERE n < 63)
   SELECT CAST(a.c || b.c AS BLOB), printf('%03x', 64 * a.n + b.n) FROM digit a, digit b;
 
--- The rows of File in the order of the new catalogue. `lstat` is the text of 14 numbers, or what could not be cut so (`is_odd`). `digest` is
--- empty or an MD5 in hexadecimal. `other` is 0 without another digest, 1 with one that a restore passes over, 2 with one that it takes for a
--- fault. The words of LStat that are needed are those of mode, size, LinkFI and stream; the first and third are NULL if these files are of
--- no interest: with a stream that is supported, and below 2^30 bytes.
-CREATE TABLE entry(JobId INTEGER NOT NULL, FileIndex INTEGER NOT NULL, folder INTEGER, Filename BLOB, lstat TEXT, is_odd INTEGER,
-  mode TEXT, size TEXT, link TEXT, stream TEXT, digest TEXT, other INTEGER, is_bad_path INTEGER, is_outside INTEGER, is_twice INTEGER);
-INSERT INTO entry
-  SELECT JobId, FileIndex, number, Filename,
+-- Of each job whose spans have no gap: its first and its last index.
+CREATE TABLE reach(JobId INTEGER PRIMARY KEY, first INTEGER NOT NULL, last INTEGER NOT NULL);
+INSERT INTO reach
+  SELECT JobId, min(FirstIndex), max(LastIndex)
+  FROM (
+    SELECT *, max(LastIndex) OVER (PARTITION BY JobId ORDER BY FirstIndex ROWS BETWEEN UNBOUNDED PRECEDING AND 1 PRECEDING) AS before
+    FROM span)
+  GROUP BY JobId HAVING max(FirstIndex > before + 1) IS NOT 1;
+
+-- The rows of File of the jobs that are taken. Most are usual: LStat and the digest were looked at by the server. CASE leaves out what an earlier
+-- line decides, as AND and OR do not.
+CREATE VIEW seen AS
+  SELECT f.*, p.number,
+    CASE
+      WHEN p.number IS NULL OR p.size + length(f.Filename) > 4096 THEN 1
+      WHEN length(f.Filename) <= 2 AND (f.Filename = x'2e' OR f.Filename = x'2e2e') THEN 1
+      ELSE instr(f.Filename, x'2f') OR instr(f.Filename, x'00')
+    END AS is_bad_path,
+    CASE
+      WHEN f.FileIndex <= 0 OR f.FileIndex BETWEEN r.first AND r.last THEN 0
+      ELSE NOT EXISTS (SELECT 1 FROM span s WHERE s.JobId = f.JobId AND s.LastIndex >= f.FileIndex AND s.FirstIndex <= f.FileIndex)
+    END AS is_outside
+  FROM (
+    SELECT kind, FileId, FileIndex, JobId, PathId, CAST(Filename AS BLOB) AS Filename, CAST(LStat AS TEXT) AS lstat,
+      CAST(MD5 AS BLOB) AS MD5, hex, kind = 'usual' AND FileIndex > 0 AND (hex <> '' OR MD5 = '' OR MD5 = '0') AS is_usual
+    FROM in_file
+    LIMIT -1 OFFSET 0) f
+    CROSS JOIN job j ON j.JobId = f.JobId LEFT JOIN reach r ON r.JobId = f.JobId LEFT JOIN folder p ON p.PathId = f.PathId
+  WHERE j.kind IS NULL;
+CREATE VIEW usual_entry AS
+  SELECT FileId, JobId, FileIndex, number, Filename, substr(lstat, 1, length(lstat) - 4) AS lstat, 0 AS is_odd, NULL AS mode, NULL AS size,
+    NULL AS link, substr(lstat, -1) AS stream, hex AS digest, 0 AS other, is_bad_path, is_outside
+  FROM seen WHERE is_usual;
+CREATE VIEW other_entry AS
+  SELECT FileId, JobId, FileIndex, number, Filename,
     CASE
       WHEN words IS NULL OR spaces = 13 THEN lstat
       WHEN spaces = 12 THEN lstat || ' A'
@@ -169,16 +196,16 @@ INSERT INTO entry
           || json_extract(words, '$[3]') || json_extract(words, '$[4]') || json_extract(words, '$[5]') || json_extract(words, '$[6]')
           || json_extract(words, '$[7]') || json_extract(words, '$[8]') || json_extract(words, '$[9]') || json_extract(words, '$[10]')
           || json_extract(words, '$[11]') || json_extract(words, '$[12]') || json_extract(words, '$[13]')))
-    END,
-    FileIndex > 0 AND words IS NULL, CASE WHEN stream NOT IN ('A', 'C', 'G') OR length(size) > 5 THEN json_extract(words, '$[2]') END, size,
-    CASE WHEN stream NOT IN ('A', 'C', 'G') OR length(size) > 5 THEN ifnull(json_extract(words, '$[13]'), 'A') END, stream,
-    CASE WHEN is_md5 AND FileIndex > 0 THEN substr(hex, 1, 32) ELSE '' END,
+    END AS lstat,
+    FileIndex > 0 AND words IS NULL AS is_odd,
+    CASE WHEN stream NOT IN ('A', 'C', 'G') OR length(size) > 5 THEN json_extract(words, '$[2]') END AS mode, size,
+    CASE WHEN stream NOT IN ('A', 'C', 'G') OR length(size) > 5 THEN ifnull(json_extract(words, '$[13]'), 'A') END AS link, stream,
+    CASE WHEN is_md5 AND FileIndex > 0 THEN substr(hex, 1, 32) ELSE '' END AS digest,
     CASE
       WHEN is_md5 OR FileIndex <= 0 OR MD5 IN (x'', x'30') THEN 0
       WHEN length(MD5) IN (22, 27) OR instr(MD5, x'00') OR CAST(MD5 AS TEXT) GLOB '*[^A-Za-z0-9+/]*' THEN 1
       ELSE 2
-    END,
-    is_bad_path, is_outside, 0
+    END AS other, is_bad_path, is_outside
   FROM (
     SELECT *, json_extract(words, '$[7]') AS size,
       CASE WHEN is_short THEN substr(lstat, -1) ELSE ifnull(json_extract(words, '$[15]'), 'C') END AS stream
@@ -188,12 +215,12 @@ INSERT INTO entry
         is_plain AND spaces = 15 AND substr(lstat, -2, 1) = ' ' AND substr(lstat, -4, 1) = ' ' AS is_short,
         length(hex) = 32 OR length(hex) = 33 AND substr(hex, 33) = '0' AS is_md5
       FROM (
-        SELECT f.FileId, f.JobId, f.FileIndex, f.Filename, f.MD5, p.number, f.lstat,
+        SELECT f.FileId, f.JobId, f.FileIndex, f.Filename, f.MD5, f.number, f.lstat, f.is_bad_path, f.is_outside,
           length(f.lstat) - length(replace(f.lstat, ' ', '')) AS spaces,
-          -- Words of 1 to 10 digits with a space between two. CASE leaves out what an earlier line decides, as AND and OR do not.
+          -- Words of 1 to 10 digits with a space between two.
           CASE
             WHEN f.FileIndex <= 0 OR instr(f.lstat, '  ') OR substr(f.lstat, 1, 1) = ' ' OR substr(f.lstat, -1) = ' ' THEN 0
-            WHEN f.kind = 'plain' THEN 1
+            WHEN f.kind <> 'file' THEN 1
             ELSE f.lstat <> '' AND instr(CAST(f.lstat AS BLOB), x'00') = 0 AND f.lstat NOT GLOB '*[^A-Za-z0-9+/ ]*'
               AND ' ' || f.lstat NOT GLOB '* [^ ][^ ][^ ][^ ][^ ][^ ][^ ][^ ][^ ][^ ][^ ]*'
           END AS is_plain,
@@ -207,21 +234,21 @@ INSERT INTO entry
                 AND d.digits = substr(f.MD5, 7, 2) AND e.digits = substr(f.MD5, 9, 2) AND g.digits = substr(f.MD5, 11, 2)
                 AND h.digits = substr(f.MD5, 13, 2) AND i.digits = substr(f.MD5, 15, 2) AND k.digits = substr(f.MD5, 17, 2)
                 AND l.digits = substr(f.MD5, 19, 2) AND m.digits = substr(f.MD5, 21, 2))
-          END AS hex,
-          p.number IS NULL OR p.size + length(f.Filename) > 4096 OR instr(f.Filename, x'2f') OR instr(f.Filename, x'00')
-            OR f.Filename IN (x'2e', x'2e2e') AS is_bad_path,
-          f.FileIndex > 0 AND NOT EXISTS (
-            SELECT 1 FROM span s WHERE s.JobId = f.JobId AND s.LastIndex >= f.FileIndex AND s.FirstIndex <= f.FileIndex) AS is_outside
-        FROM (
-          SELECT kind, FileId, FileIndex, JobId, PathId, CAST(Filename AS BLOB) AS Filename, CAST(LStat AS TEXT) AS lstat,
-            CAST(MD5 AS BLOB) AS MD5, hex
-          FROM in_file
-          LIMIT -1 OFFSET 0) f
-          CROSS JOIN job j ON j.JobId = f.JobId LEFT JOIN folder p ON p.PathId = f.PathId
-        WHERE j.kind IS NULL
+          END AS hex
+        FROM seen f WHERE NOT f.is_usual
         LIMIT -1 OFFSET 0)
       LIMIT -1 OFFSET 0)
-    LIMIT -1 OFFSET 0)
+    LIMIT -1 OFFSET 0);
+
+-- The rows of File in the order of the new catalogue. `lstat` is the text of 14 numbers, or what could not be cut so (`is_odd`). `digest` is
+-- empty or an MD5 in hexadecimal. `other` is 0 without another digest, 1 with one that a restore passes over, 2 with one that it takes for a
+-- fault. The words of LStat that are needed are those of mode, size, LinkFI and stream; the first three may be NULL if these files are of
+-- no interest: with a stream that is supported, and below 2^30 bytes.
+CREATE TABLE entry(JobId INTEGER NOT NULL, FileIndex INTEGER NOT NULL, folder INTEGER, Filename BLOB, lstat TEXT, is_odd INTEGER,
+  mode TEXT, size TEXT, link TEXT, stream TEXT, digest TEXT, other INTEGER, is_bad_path INTEGER, is_outside INTEGER, is_twice INTEGER);
+INSERT INTO entry
+  SELECT JobId, FileIndex, number, Filename, lstat, is_odd, mode, size, link, stream, digest, other, is_bad_path, is_outside, 0
+  FROM (SELECT * FROM usual_entry UNION ALL SELECT * FROM other_entry)
   ORDER BY JobId, FileIndex <= 0, abs(FileIndex), is_bad_path, FileId;
 
 -- Of several rows with one FileIndex the first is taken.

@@ -13,7 +13,8 @@ CREATE TABLE in_jobmedia(JobMediaId INTEGER PRIMARY KEY, JobId INTEGER, MediaId 
   StartFile INTEGER, EndFile INTEGER, StartBlock INTEGER, EndBlock INTEGER, VolIndex INTEGER);
 CREATE TABLE in_path(PathId INTEGER PRIMARY KEY, Path BLOB);
 -- Only the rows of backups. Filename is `/` if its row is missing. Filename, LStat and MD5 are texts or blobs. `kind` is `file`, or `plain`
--- if LStat is known to be of digits and spaces, with at most ten digits in a row. `hex` is MD5 in hexadecimal, if that is known, or empty.
+-- if LStat is known to be of digits and spaces, with at most ten digits in a row. It is `usual` if LStat is also known to be sixteen words,
+-- the eighth of at most five digits, the last two of one, and the last A, C or G. `hex` is MD5 in hexadecimal, if that is known, or empty.
 CREATE TABLE in_file(kind TEXT, FileId INTEGER, FileIndex INTEGER, JobId INTEGER, PathId INTEGER, Filename BLOB, LStat BLOB, MD5 BLOB,
   hex TEXT);
 -- The number of file rows of other jobs, and of job numbers that no job has.
