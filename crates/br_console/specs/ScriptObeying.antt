@@ -24,6 +24,8 @@ use Rattle.br_console.specs.ScriptRestoring.{RestoresBy}
 use Rattle.br_console.specs.declared.script_fault.ScriptFault.{ScriptFault}
 use Rattle.br_console.specs.declared.script.Script.{Script}
 use Rattle.br_console.specs.declared.script.ScriptEnd.{ScriptEnd}
+use Rattle.br_console.specs.declared.script_input.LineReading.{LineReading}
+use Rattle.br_console.specs.declared.script_input.LineReading.TheVariants as reading_of
 
 -- a bootstrap that was read is kept; if it is refused, the refusal is written and none is kept
 abbrev pub KeepsRead : Option (List ℕ) → Option (List ℕ) → ScriptEnd → ScriptEnd → Result (Unit {0}) ScriptFault → Option (List Group)
@@ -76,3 +78,9 @@ abbrev pub CarriesOut : {C V W : Type 0} → (JobRows → C → C → Type 0) �
 CarriesOut inserts refuses holds failures contents old new before after place result line =
     MatchOption old.draft (TakesOutside holds failures old new (contents before) (contents after) place result line)
     (λ d. DraftTakes inserts refuses holds failures contents old new before after place result line d)
+
+-- the same of what was read, if it is a whole line
+abbrev pub Carries : {C V W : Type 0} → (JobRows → C → C → Type 0) → (JobRows → C → C → Type 0) → (V → Option (List Volume)) → (V → Failures)
+    → (W → Option (List ℕ)) → Script C V → Script C V → W → W → ℕ → LineReading → Result (Unit {0}) ScriptFault → List ℕ → Type 0
+Carries inserts refuses holds failures contents old new before after place reading result line =
+    reading ≡ reading_of.Line → CarriesOut inserts refuses holds failures contents old new before after place result line

@@ -7,7 +7,7 @@ ghost use Rattle.br_console.specs.ScriptEnding.{RefusesBy};
 ghost use Rattle.br_console.specs.ScriptFault.{EndlessAfterAll};
 ghost use Rattle.br_console.specs.ScriptJobs.{GivesUp};
 ghost use Rattle.br_console.specs.ScriptLine.{drives_after, drives_by, line_said, said};
-ghost use Rattle.br_console.specs.ScriptObeying.{AppendsBy, CarriesOut, Obeys, TakesOutside, number_of};
+ghost use Rattle.br_console.specs.ScriptObeying.{AppendsBy, Carries, CarriesOut, Obeys, TakesOutside, number_of};
 ghost use Rattle.br_console.specs.declared.script.ScriptEnd.TheVariants.{Refused};
 
 use crate::driven_store::DrivenStore;
@@ -160,8 +160,8 @@ impl<C: JobStore, V: DrivenStore> Script<C, V> {
         ensures turns { OnOk result (lines.old.turns ≤ lines.new.turns) }
         ensures few { DoesFew C.inserts C.refuses V.holds V.failures self.new.desk.session self.old.desk.keeper self.new.desk.keeper }
         ensures lost { reading ≡ LineReading.NoMemory → GivesUp self.old.draft self.new.draft }
-        ensures carries { reading ≡ LineReading.Line → CarriesOut C.inserts C.refuses V.holds V.failures W.contents
-            self.old self.new writer.old writer.new lines.old.number result line.now }
+        ensures carries { Carries C.inserts C.refuses V.holds V.failures W.contents self.old self.new writer.old writer.new
+            lines.old.number reading result line.now }
     {
         match reading {
             LineReading::Line => self.carry_out(rt, line, lines, writer),
