@@ -4,10 +4,10 @@
     acceptance/once.py                    needs the program in crates/brestore/out
     acceptance/once.py --program FILE     another program
 
-`brestore extract --memory 4M` prints the manifest of small files of 24 MiB: of one session, and of two that take turns, by one drive
-and by six. What it cannot hold is digested as it comes, so that it is not read again. The bytes of all reads are those that the system
-counts for the process (`rchar`). The status is 1 if a manifest is another one, or if more than 1.05 times the bytes of the volumes
-were read.
+`brestore extract --memory 4M` prints the manifest of small files of 24 MiB, by one drive, two and six: of one session, and of two that
+take turns, on a few volumes and on many, from each of which files go on to the next. What it cannot hold is digested as it comes, so
+that it is not read again. What comes too early, from a later volume, waits. The bytes of all reads are those that the system counts
+for the process (`rchar`). The status is 1 if a manifest is another one, or if more than 1.05 times the bytes of the volumes were read.
 """
 
 import argparse
@@ -25,8 +25,8 @@ from volume_sets import make_set
 
 SIZE = 24 * MIB
 MEMORY = "4M"
-KINDS = {"one-session": "one session", "small": "two sessions that take turns"}
-DRIVES = (1, 6)
+KINDS = {"one-session": "one session", "small": "two sessions that take turns", "short-volumes": "files that go on from volume to volume"}
+DRIVES = (1, 2, 6)
 MOST = 1.05
 
 

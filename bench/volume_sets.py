@@ -356,6 +356,7 @@ KINDS = {
     "large-older": (fill_large, 1, 5, Volumes, b"BB01"),
     "one-session": (fill_small, 1, 4, Volumes, b"BB02"),
     "tiny": (fill_tiny, 1, 1, Volumes, b"BB02"),
+    "short-volumes": (fill_small, 2, 100, Volumes, b"BB02"),
     "many-volumes": (fill_small, 2, 2000, Volumes, b"BB02"),
     "many-visits": (fill_small, 1, 2, VolumesInTurns, b"BB02"),
 }

@@ -1,5 +1,5 @@
 -- The first hits of a file among hits in order: those of which the data are digested.
-use Rattle.std.proofs.Common.{◌≡◌, ◌⊎◌, inl, inr, ℕ, suc, ◌≤◌, length, take, Bool, true, false, cond, Option, Some, None, List, [], ◌∷◌, filter, refl, sym, ap, subst, ◌∙◌, arith}
+use Rattle.std.proofs.Common.{◌≡◌, ◌⊎◌, inl, inr, ◌≤◌, length, take, Bool, true, false, cond, Option, Some, None, List, [], ◌∷◌, filter, refl, sym, ap, subst, ◌∙◌, arith}
 use Rattle.std.proofs.lemmas.Option.{same_Some}
 use Rattle.std.specs.Prelude.{Contains}
 use Rattle.std.specs.BTreeMap.{get_by}
@@ -9,7 +9,7 @@ use Rattle.std.specs.Cmp.{tied_itself}
 use Rattle.std.specs.Ordering.{ordering_reverse}
 use Rattle.std.specs.declared.cmp.Ordering.TheVariants.{Less, Equal, Greater}
 use Rattle.br_model.specs.Name.{FileKey, key_cmp, same_key}
-use Rattle.br_model.specs.Meaning.{Spot, Hit, Hits, HasHit, hit_cmp, hits_of}
+use Rattle.br_model.specs.Meaning.{Hit, Hits, HasHit, hit_cmp, hits_of}
 use Rattle.br_model.proofs.HitLaws.{hit_cmp_total}
 use Rattle.br_model.proofs.ListLaws.{all_filter, contains_filter, first_or_later, kept_passes, none_in, of_each, to_each}
 use Rattle.br_model.proofs.RisingLaws.{found_is_held, hit_was_found}

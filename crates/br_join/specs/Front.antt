@@ -1,5 +1,7 @@
 -- The fronts of files: what was made of their first hits, in order of place, while the others came.
-use Rattle.std.specs.Prelude.{◌≡◌, ◌≤◌, ◌+◌, ◌++◌, ◌∷◌, [], ◌⊎◌, ⊤, ℕ, Bool, true, false, List, length, take, filter, Option, Some, None, Contains, nat_abs}
+use Rattle.std.specs.Prelude.{◌≡◌, ◌≤◌, ◌+◌, ◌++◌, ◌∷◌, [], ◌⊎◌, ⊤, Bool, true, false, List, length, take, filter, Option, Some, None, IfSome, Contains, nat_abs}
+use Rattle.std.specs.Box.{box_value}
+use Rattle.std.specs.Global.{Box}
 use Rattle.std.specs.List.{AllByRecursion}
 use Rattle.std.specs.Ordering.{is_lt}
 use Rattle.std.specs.declared.cmp.Ordering.TheVariants.{Less}
@@ -12,6 +14,7 @@ use Rattle.br_join.specs.Plain.{plain_bytes, plain_of}
 use Rattle.br_join.specs.declared.front.Front.{Front}
 use Rattle.br_join.specs.declared.begun.Begun.{Begun}
 use Rattle.br_join.specs.declared.fronts.Fronts.{Fronts}
+use Rattle.br_join.specs.declared.waiting.Waiting.{Waiting}
 
 -- ---- what callers see
 
@@ -62,6 +65,20 @@ abbrev pub is_short : FileKey → Option Spot → Spot → Bool
 is_short key None spot = true
 is_short key (Some first) spot = is_before key spot first
 
+-- The hits of a file in a set that are at or after the first place that is open are those that wait.
+pub record Waits (held : Hits) (key : FileKey) (o : Option Spot) (w : Waiting) : Type 0 where
+  pub listed : AreListed w.hits.items
+  pub of_key : AllByRecursion (λ (h : Hit). h.key ≡ key) w.hits.items
+  pub inside : AllByRecursion (HasHit held) w.hits.items
+  pub behind : AllByRecursion (λ (h : Hit). is_short key o h.spot ≡ false) w.hits.items
+  pub last : is_short key o w.end ≡ false
+  pub ended : (spot : Spot) → is_before key w.end spot ≡ true → AllByRecursion (λ (h : Hit). hit_cmp (h.key, h.spot) (key, spot) ≡ Less) w.hits.items
+  pub all : (h : Hit) → h.key ≡ key → HasHit held h → is_short key o h.spot ≡ false → Contains w.hits.items h
+
+abbrev pub WaitsIf : Hits → FileKey → Option Spot → Option (Box Waiting) → Type 0
+WaitsIf held key o None = ⊤
+WaitsIf held key o (Some w) = Waits held key o (box_value w)
+
 -- Of the hits of a file in a set the first ones are digested. The others are not, and all at or
 -- after the first place that is open.
 pub record IsBegun (held : Hits) (key : FileKey) (b : Begun) : Type 0 where
@@ -74,6 +91,7 @@ pub record IsBegun (held : Hits) (key : FileKey) (b : Begun) : Type 0 where
   pub whole : (h : Hit) → h.key ≡ key → HasHit held h → Contains had h ⊎ (is_short key b.first_open h.spot ≡ false)
   pub read : b.front.read ≡ plain_bytes (fragments had)
   pub count : b.front.count ≡ length had
+  pub waits : WaitsIf held key b.first_open b.waiting
 
 -- what is known of a file fits the set: without an entry it has no hit in it
 abbrev pub IsKnown : Hits → FileKey → Option (Option Begun) → Type 0
@@ -93,9 +111,13 @@ AreKnownIf held (Some tree) = AreKnown held tree
 abbrev pub AreOf : Hits → Fronts → Type 0
 AreOf held fronts = AreKnownIf held fronts.known
 
--- no hit is digested
-abbrev pub IsFresh : Begun → Type 0
-IsFresh b = (b.front.read ≡ []) × (b.front.count ≡ 0) × (b.last ≡ None) × (b.first_open ≡ None)
+-- no hit is digested, and none waits
+pub record IsFresh (b : Begun) : Type 0 where
+  pub read : b.front.read ≡ []
+  pub count : b.front.count ≡ 0
+  pub last : b.last ≡ None
+  pub first_open : b.first_open ≡ None
+  pub waiting : b.waiting ≡ None
 
 -- one more hit is digested
 pub record IsFolded (h : Hit) (b c : Begun) : Type 0 where
@@ -103,9 +125,43 @@ pub record IsFolded (h : Hit) (b c : Begun) : Type 0 where
   pub count : c.front.count ≡ b.front.count + 1
   pub last : c.last ≡ Some h.spot
   pub first_open : c.first_open ≡ b.first_open
+  pub waiting : c.waiting ≡ b.waiting
+
+-- the hit is the first that waits, before which none was open
+pub record IsFirst (h : Hit) (o : Option Spot) (w : Waiting) : Type 0 where
+  pub none : o ≡ None
+  pub hits : w.hits.items ≡ h ∷ []
+  pub end : w.end ≡ h.spot
 
 -- the hit is the first that is not digested
 pub record IsLeft (h : Hit) (b c : Begun) : Type 0 where
   pub front : c.front ≡ b.front
   pub last : c.last ≡ b.last
   pub first_open : c.first_open ≡ Some h.spot
+  pub waiting : IfSome c.waiting (λ w. IsFirst h b.first_open (box_value w))
+
+-- the hit waits after those that waited
+pub record IsNext (h : Hit) (v w : Waiting) : Type 0 where
+  pub after : is_before h.key v.end h.spot ≡ true
+  pub hits : w.hits.items ≡ v.hits.items ++ h ∷ []
+  pub end : w.end ≡ h.spot
+
+abbrev pub IsNextOf : Hit → Option (Box Waiting) → Box Waiting → Type 0
+IsNextOf h None w = ⊥
+IsNextOf h (Some v) w = IsNext h (box_value v) (box_value w)
+
+-- the hit is after others that are not digested
+pub record IsPassed (h : Hit) (b c : Begun) : Type 0 where
+  pub front : c.front ≡ b.front
+  pub last : c.last ≡ b.last
+  pub first_open : c.first_open ≡ b.first_open
+  pub waiting : IfSome c.waiting (IsNextOf h b.waiting)
+
+-- the hits that waited are digested
+pub record IsCaughtUp (b : Begun) (w : Box Waiting) (c : Begun) : Type 0 where
+  pub waiting : b.waiting ≡ Some w
+  pub read : c.front.read ≡ b.front.read ++ plain_bytes (fragments (box_value w).hits.items)
+  pub count : c.front.count ≡ b.front.count + length (box_value w).hits.items
+  pub last : c.last ≡ Some (box_value w).end
+  pub first_open : c.first_open ≡ None
+  pub none : c.waiting ≡ None

@@ -1,71 +1,102 @@
-//! Up to which group of a bootstrap all hits were taken.
+//! Up to which piece of a bootstrap all hits were taken.
 use br_piece::Piece;
 use std::alloc::{AllocError, Global};
 use std::collections::BTreeMap;
 
-/// The first group of each piece, and which pieces are closed. All hits of groups below the first
-/// one of an open piece were taken, if each piece is on one volume and its groups are read in order.
+/// The number of groups between two that are looked at.
+const MOST_GROUPS: usize = 64;
+
+/// The piece of each group, and the lowest piece that is open. All hits of lower pieces were taken.
 #[derive(Drop)]
 pub(crate) struct Floor {
-    /// The number of each piece, and of its first group, in order of the groups.
-    firsts: Vec<(u32, u32)>,
-    /// The number of pieces at the start of `firsts` that are closed.
-    closed: usize,
+    /// The number of each group with that of its piece, in order of group.
+    groups: Vec<(u32, u32)>,
+    /// The number of the lowest piece that is open, or `u32::MAX` if none is.
+    lowest: u32,
 }
 
-/// Returns the first groups of pieces. Pieces are in order of their first groups.
-fn first_groups(alloc: Global, pieces: &[Piece]) -> Result<Vec<(u32, u32)>, AllocError> {
-    let mut firsts = Vec::new(alloc);
+/// Returns the groups of pieces, in their order, with the numbers of the pieces.
+fn groups_of(alloc: Global, pieces: &[Piece]) -> Result<Vec<(u32, u32)>, AllocError> {
+    let mut groups = Vec::new(alloc);
     for piece in pieces {
-        if let Some((group, _)) = piece.groups.first() {
-            firsts.push((piece.number, *group))?;
+        for (group, _) in &piece.groups {
+            groups.push((*group, piece.number))?;
         }
     }
-    Ok(firsts)
+    Ok(groups)
 }
 
-/// Returns whether a piece is closed.
-fn is_closed(pieces: &BTreeMap<u32, bool>, piece: u32) -> bool {
-    match pieces.get(&piece) {
-        Some(closed) => *closed,
-        None => true,
-    }
-}
-
-/// Returns the place of the first open piece from a place on, or the number of pieces.
-fn first_open(firsts: &[(u32, u32)], from: usize, pieces: &BTreeMap<u32, bool>) -> usize {
-    for i in from..firsts.len() {
-        if !is_closed(pieces, firsts[i].0) {
-            return i;
+/// Returns the lowest open piece from a number on, or `u32::MAX` if none is open.
+fn lowest_open(pieces: &BTreeMap<u32, bool>, from: u32) -> u32 {
+    for (piece, closed) in pieces.range(from..) {
+        if !*closed {
+            return *piece;
         }
     }
-    firsts.len()
+    u32::MAX
+}
+
+/// Returns whether each of these groups is of this piece, or of one below the lowest open one.
+fn are_of(groups: &[(u32, u32)], own: u32, lowest: u32) -> bool {
+    for (_, piece) in groups {
+        if *piece != own && *piece >= lowest {
+            return false;
+        }
+    }
+    true
 }
 
 impl Floor {
     /// Returns the floor of these pieces, each of them open.
     pub(crate) fn of(alloc: Global, pieces: &[Piece]) -> Result<Floor, AllocError> {
-        Ok(Floor {
-            firsts: first_groups(alloc, pieces)?,
-            closed: 0,
-        })
+        let mut groups = groups_of(alloc, pieces)?;
+        groups.sort()?;
+        Ok(Floor { groups, lowest: 0 })
     }
 
-    /// Returns the lowest group that an open piece begins with.
-    pub(crate) fn group(&self) -> u32 {
-        match self.firsts.get(self.closed) {
-            Some((_, group)) => *group,
-            None => u32::MAX,
+    /// Returns the place of a group.
+    fn place_of(&self, group: u32) -> usize {
+        self.groups.partition_point(|known| known.0 < group)
+    }
+
+    /// Returns whether all hits of the pieces before that of this group were taken: of all pieces, if
+    /// no piece has a group of that number or a greater one.
+    pub(crate) fn allows(&self, group: u32) -> bool {
+        match self.groups.get(self.place_of(group)) {
+            Some((_, piece)) => *piece <= self.lowest,
+            None => self.is_over_all(),
         }
     }
 
-    /// Goes on to the first piece that is open. All calls together walk the pieces once.
-    pub(crate) fn rise(&mut self, pieces: &BTreeMap<u32, bool>) {
-        self.closed = first_open(&self.firsts, self.closed, pieces);
+    /// Returns whether the groups from `last` on that are before `group` are of its own piece, which
+    /// is read in order, or of pieces whose hits were all taken. It looks at few groups: if there are
+    /// more, it returns whether all hits were taken.
+    pub(crate) fn is_next(&self, last: u32, group: u32) -> bool {
+        let to = self.place_of(group);
+        let Some((_, own)) = self.groups.get(to) else {
+            return self.is_over_all();
+        };
+        match self.groups.get(self.place_of(last)..to) {
+            Some(between) if between.len() <= MOST_GROUPS => are_of(between, *own, self.lowest),
+            _ => self.is_over_all(),
+        }
     }
 
-    /// Goes back to the first piece.
+    /// Returns whether all hits were taken.
+    pub(crate) fn is_over_all(&self) -> bool {
+        self.lowest == u32::MAX
+    }
+
+    /// Goes on to the lowest piece that is open. Returns false if that is the piece of before. All
+    /// calls together walk the pieces once.
+    pub(crate) fn rise(&mut self, pieces: &BTreeMap<u32, bool>) -> bool {
+        let before = self.lowest;
+        self.lowest = lowest_open(pieces, before);
+        self.lowest != before
+    }
+
+    /// Goes back to where each piece is open.
     pub(crate) fn fall(&mut self) {
-        self.closed = 0;
+        self.lowest = 0;
     }
 }

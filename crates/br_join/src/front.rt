@@ -1,6 +1,7 @@
 //! What was made of the first hits of a file.
-ghost use Rattle.std.specs.Prelude.{◌≡◌, ◌++◌, ◌+◌, [], true, nat_abs, IfOk};
-ghost use Rattle.br_join.specs.Plain.{plain_of};
+ghost use Rattle.std.specs.Prelude.{◌≡◌, ◌++◌, ◌+◌, [], true, length, nat_abs, IfOk};
+ghost use Rattle.br_join.specs.Plain.{plain_bytes, plain_of};
+ghost use Rattle.br_records.specs.Records.{fragments};
 
 use br_data::{Data, Reading};
 use br_match::Hit;
@@ -29,6 +30,19 @@ fn push_plain(read: &mut Reading, stream: i32, found: &Data) -> bool
     }
 }
 
+/// Adds the next hits, one after another.
+fn push_each(front: &mut Front, hits: &[Hit]) -> bool
+    ensures read { result ≡ true → front.new.read ≡ front.old.read ++ plain_bytes (fragments hits.now) }
+    ensures count { result ≡ true → front.new.count ≡ front.old.count + length hits.now }
+{
+    for hit in hits {
+        if !front.push(hit) {
+            return false;
+        }
+    }
+    true
+}
+
 impl Front {
     /// Returns the front of no hits.
     pub(crate) fn new() -> Front
@@ -51,6 +65,14 @@ impl Front {
         };
         self.count = count;
         push_plain(&mut self.read, hit.stream, &hit.data)
+    }
+
+    /// Adds the next hits, as `push` does each.
+    pub(crate) fn push_all(&mut self, hits: &[Hit]) -> bool
+        ensures read { result ≡ true → self.new.read ≡ self.old.read ++ plain_bytes (fragments hits.now) }
+        ensures count { result ≡ true → self.new.count ≡ self.old.count + length hits.now }
+    {
+        push_each(self, hits)
     }
 
     /// Returns the number of the hits.

@@ -5,11 +5,13 @@ ghost use Rattle.br_join.specs.Room.{data_in, filled};
 ghost use Rattle.br_join.specs.Front.{AreFronts, AreOf};
 ghost use Rattle.br_records.specs.Runs.{AreListed};
 
+use crate::floor::Floor;
 use crate::fronts::Fronts;
 use crate::room::{Room, let_go_if};
 use br_match::Hit;
 use br_records::settle;
 use std::alloc::{AllocError, Global};
+use std::collections::BTreeMap;
 use std::marker::Model;
 use std::mem;
 
@@ -25,7 +27,8 @@ const FIRST_LEN: usize = 4096;
 ///
 /// From the first data on for which there is no room, no data are held. The data of a hit are then
 /// digested as it is taken, if it is the next one of its file. That costs two look-ups of its file
-/// and its digest, and no walk over the hits that were taken before.
+/// and its digest, and no walk over the hits that were taken before. Hits that come before those in
+/// front of them hold their data until these are there, while half of the room is enough for that.
 #[derive(Drop)]
 pub(crate) struct Held {
     hits: Vec<Hit>,
@@ -60,13 +63,7 @@ impl Model for Held {
 /// Reserves room for the data of hits that come. If there is too little, their data are let go, and
 /// those of the hits that were taken before. Data that were not digested before they were let go
 /// are read again.
-fn make_room(
-    room: &mut Room,
-    taken: &mut Vec<Hit>,
-    hits: &mut Vec<Hit>,
-    fronts: &mut Fronts,
-    floor: u32,
-)
+fn make_room(room: &mut Room, taken: &mut Vec<Hit>, hits: &mut Vec<Hit>, fronts: &mut Fronts)
     ensures room { room.new ≡ filled room.old (data_in hits.old.items) }
     ensures taken { taken.new.items ≡ taken.old.items }
     ensures taken_len { vec_len taken.new ≡ vec_len taken.old }
@@ -78,9 +75,8 @@ fn make_room(
     let held = room.holds_all();
     room.take(hits);
     let holds = room.holds_all();
-    let alloc = *taken.allocator();
-    fronts.begin_if(held != holds, alloc, taken, floor);
-    fronts.note(hits, floor);
+    fronts.begin_if(held != holds, taken, room.half());
+    fronts.note(hits);
     let_go_if(taken, held != holds);
     let_go_if(hits, !holds);
 }
@@ -94,14 +90,14 @@ fn append(list: &mut Vec<Hit>, mut hits: Vec<Hit>)
 }
 
 impl Held {
-    /// Returns a set without hits, which grows by this allocator.
-    pub(crate) fn new(alloc: Global) -> Held
+    /// Returns a set without hits of these pieces, which grows by this allocator.
+    pub(crate) fn new(alloc: Global, floor: Floor) -> Held
         ensures { result ≡ empty }
     {
         Held {
             hits: Vec::new(alloc),
             full: FIRST_LEN,
-            fronts: Fronts::none(),
+            fronts: Fronts::none(alloc, floor),
         }
     }
 
@@ -118,13 +114,8 @@ impl Held {
     }
 
     /// Takes hits, and lets data go if there is no room for them. If memory runs out, nothing
-    /// changes, and the hits are returned. All hits of groups below `floor` were taken before.
-    pub(crate) fn take(
-        &mut self,
-        room: &mut Room,
-        mut hits: Vec<Hit>,
-        floor: u32,
-    ) -> Result<(), Vec<Hit>>
+    /// changes, and the hits are returned.
+    pub(crate) fn take(&mut self, room: &mut Room, mut hits: Vec<Hit>) -> Result<(), Vec<Hit>>
         ensures ok { OnOk result (self.new ≡ with_hits self.old hits.items) }
         ensures room { OnOk result (room.new ≡ filled room.old (data_in hits.items)) }
         ensures err { OnErr result (self.new ≡ self.old) }
@@ -135,7 +126,7 @@ impl Held {
         if self.hits.try_reserve(hits.len()).is_err() {
             return Err(hits);
         }
-        make_room(room, &mut self.hits, &mut hits, &mut self.fronts, floor);
+        make_room(room, &mut self.hits, &mut hits, &mut self.fronts);
         append(&mut self.hits, hits);
         Ok(())
     }
@@ -150,7 +141,7 @@ impl Held {
         settle(&mut self.hits)?;
         let alloc = *self.hits.allocator();
         self.full = FIRST_LEN;
-        self.fronts = Fronts::none();
+        self.fronts.forget();
         Ok(mem::replace(&mut self.hits, Vec::new(alloc)))
     }
 
@@ -158,8 +149,15 @@ impl Held {
     pub(crate) fn put_back(&mut self, hits: Vec<Hit>)
         ensures { self.new ≡ hits_of hits.items }
     {
-        self.fronts = Fronts::none();
+        self.fronts.forget();
         self.hits = hits;
+    }
+
+    /// Digests the data of hits that waited for those of a piece that is closed now.
+    pub(crate) fn rise(&mut self, pieces: &BTreeMap<u32, bool>)
+        ensures { self.new ≡ self.old }
+    {
+        self.fronts.rise(pieces);
     }
 
     /// Returns all hits, in order of file and place, and the fronts of their files.

@@ -35,8 +35,10 @@ use std::thread::Threads;
 /// digests. The memory is then free for what follows. From then on the plain data of a hit are
 /// digested as it is taken, if all hits of its file that are before it were digested, too: the file
 /// has a front, and its first data are not read again to be digested. Fronts begin with the first
-/// hit of a file. A hit that comes before those that are digested, or again, ends the front, and so
-/// do sparse data. The files are made of their fronts and of data that are read again.
+/// hit of a file. A hit that comes too early, from a later volume, waits with its data until those
+/// before it are digested, while half of the room is enough for all such hits. A hit that comes
+/// before those that are digested, or again, ends the front, and so do sparse data. The files are
+/// made of their fronts and of data that are read again.
 ///
 /// For contracts the hits stay the same: they see the bytes whether these are in memory or not, and
 /// beside them how much room is left and whether all data are held.
@@ -48,7 +50,6 @@ pub struct Joiner {
     names: Option<Names>,
     hits: Held,
     room: Room,
-    floor: Floor,
 }
 
 /// What a joiner took: the hits, in order of file and place, the names of the plan, if there is one,
@@ -147,9 +148,8 @@ impl Joiner {
         Ok(Joiner {
             pieces: opened(alloc, pieces)?,
             names,
-            hits: Held::new(alloc),
+            hits: Held::new(alloc, Floor::of(alloc, pieces)?),
             room: Room::new(bound),
-            floor: Floor::of(alloc, pieces)?,
         })
     }
 
@@ -175,15 +175,14 @@ impl Joiner {
             });
         }
         let piece = found.piece;
-        let floor = self.floor.group();
-        if let Err(hits) = self.hits.take(&mut self.room, found.hits, floor) {
+        if let Err(hits) = self.hits.take(&mut self.room, found.hits) {
             return Err(Refused {
                 value: Found { piece, hits },
                 fault: JoinFault::Memory,
             });
         }
         close(&mut self.pieces, piece);
-        self.floor.rise(&self.pieces);
+        self.hits.rise(&self.pieces);
         Ok(())
     }
 
@@ -226,8 +225,7 @@ impl Joiner {
         ensures err { OnErr result (self.new ≡ self.old) }
         ensures back { IfErr result (λ value. value ≡ batch) }
     {
-        let floor = self.floor.group();
-        match self.hits.take(&mut self.room, batch.hits, floor) {
+        match self.hits.take(&mut self.room, batch.hits) {
             Ok(()) => Ok(()),
             Err(hits) => Err(Batch { hits }),
         }
@@ -248,7 +246,7 @@ impl Joiner {
             return Err(JoinFault::StrangerPiece);
         }
         close(&mut self.pieces, piece);
-        self.floor.rise(&self.pieces);
+        self.hits.rise(&self.pieces);
         Ok(())
     }
 
@@ -284,7 +282,6 @@ impl Joiner {
         match files_of(rt, *hits.allocator(), &hits, self.names.as_ref()) {
             Ok(outcomes) => {
                 open_again(&mut self.pieces);
-                self.floor.fall();
                 self.room = self.room.emptied();
                 Ok(outcomes)
             }
@@ -322,7 +319,6 @@ impl Joiner {
             names,
             hits,
             room: _room,
-            floor: _floor,
         } = self;
         let Listed { mut hits, fronts } = hits.into_listed()?;
         let_all_go(&mut hits);

@@ -18,6 +18,7 @@ mod joiner;
 mod making;
 mod room;
 mod runs;
+mod waiting;
 
 pub use br_data::FileBytes;
 pub use fault::{JoinFault, Refused};

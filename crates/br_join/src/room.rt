@@ -112,6 +112,14 @@ impl Room {
         self.holds_all
     }
 
+    /// Returns half of the number of bytes that there was room for at first, if there is a bound.
+    pub(crate) fn half(&self) -> u64 {
+        match self.bound {
+            Some(bound) => bound / 2,
+            None => 0,
+        }
+    }
+
     /// Returns the room as it was when nothing was held.
     pub(crate) fn emptied(&self) -> Room
         ensures { result ≡ room_of self.now.bound }

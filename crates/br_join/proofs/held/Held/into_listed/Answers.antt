@@ -1,4 +1,3 @@
-use Rattle.std.proofs.Common.{◌∙◌}
 use Rattle.br_join.proofs.FirstLaws.{all_fronts}
 use Rattle.br_join.proofs.held.Held.into_listed.Goals as goal
 

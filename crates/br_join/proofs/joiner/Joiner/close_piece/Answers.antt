@@ -22,6 +22,6 @@ returns-clause-refused c = λ none.
 
 pub returns-clause-ok : goal.returns-clause-ok
 returns-clause-ok c =
-    let step : record { pieces = as_map c.close.new.pieces; names = c.self.inside.names; hits = c.self.inside.hits; room = c.self.inside.room } ≡ with_closed (record { pieces = as_map c.self.inside.pieces; names = c.self.inside.names; hits = c.self.inside.hits; room = c.self.inside.room }) c.args.piece =
-    λ i. record { pieces = c.close.ensures i; names = c.self.inside.names; hits = c.self.inside.hits; room = c.self.inside.room } in
+    let step : record { pieces = as_map c.close.new.pieces; names = c.self.inside.names; hits = c.rise.new.self; room = c.self.inside.room } ≡ with_closed (record { pieces = as_map c.self.inside.pieces; names = c.self.inside.names; hits = c.self.inside.hits; room = c.self.inside.room }) c.args.piece =
+    λ i. record { pieces = c.close.ensures i; names = c.self.inside.names; hits = c.rise.ensures i; room = c.self.inside.room } in
     step ∙ ap (λ (j : Joining). with_closed j c.args.piece) c.self.view_is

@@ -25,6 +25,6 @@ returns-clause-refused c = λ none.
 
 pub returns-clause-ok : goal.returns-clause-ok
 returns-clause-ok c =
-    let step : record { pieces = as_map c.close.new.pieces; names = c.self.inside.names; hits = c.take.new.self; room = c.take.new.room } ≡ taken (record { pieces = as_map c.self.inside.pieces; names = c.self.inside.names; hits = c.self.inside.hits; room = c.self.inside.room }) c.args.found.piece c.args.found.hits.items =
-    λ i. record { pieces = c.close.ensures i; names = c.self.inside.names; hits = c.in_default.ensures.ok i; room = c.in_default.ensures.room i } in
+    let step : record { pieces = as_map c.close.new.pieces; names = c.self.inside.names; hits = c.rise.new.self; room = c.take.new.room } ≡ taken (record { pieces = as_map c.self.inside.pieces; names = c.self.inside.names; hits = c.self.inside.hits; room = c.self.inside.room }) c.args.found.piece c.args.found.hits.items =
+    λ i. record { pieces = c.close.ensures i; names = c.self.inside.names; hits = (c.rise.ensures ∙ c.in_default.ensures.ok) i; room = c.in_default.ensures.room i } in
     step ∙ ap (λ (j : Joining). taken j c.args.found.piece c.args.found.hits.items) c.self.view_is
