@@ -1,9 +1,14 @@
 -- What is reported of a restore besides the manifest.
-use Rattle.std.specs.Prelude.{ℕ, Bool, not, ◌==◌, ◌&&◌, ◌||◌, List, [], ◌++◌, ◌∷◌, codes, decimal, if◌then◌else◌}
+use Rattle.std.specs.Prelude.{◌≡◌, ℕ, Bool, not, ◌==◌, ◌&&◌, ◌||◌, List, [], ◌++◌, ◌∷◌, None, codes, decimal, if◌then◌else◌}
 use Rattle.br_model.specs.File.{has_bytes}
 use Rattle.br_model.specs.Name.{FileKey}
 use Rattle.br_model.specs.Text.{escaped, line}
+use Rattle.br_cli_progress.specs.declared.gauge.Gauge.{Gauge}
 use Rattle.br_cli_progress.specs.declared.progress_counts.ProgressCounts.{ProgressCounts}
+
+-- there is no log
+abbrev pub HasNoLog : Gauge → Type 0
+HasNoLog gauge = gauge.log ≡ None
 
 -- the line of a file, which begins with a word
 abbrev pub path_line : List ℕ → List ℕ → List ℕ

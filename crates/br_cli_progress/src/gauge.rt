@@ -1,5 +1,6 @@
 //! The counters of a running restore, and when and where they are shown.
-ghost use Rattle.std.specs.Prelude.{◌≡◌, ◌⊎◌, IfOk};
+ghost use Rattle.std.specs.Prelude.{◌≡◌, ◌⊎◌, IfOk, None};
+ghost use Rattle.br_cli_progress.specs.Telling.{HasNoLog};
 
 use crate::expecting::len_of_volumes;
 use crate::log::Log;
@@ -61,7 +62,9 @@ impl<'r> Gauge<'r> {
         volumes: &'r str,
         target: Target<'_>,
         is_shown: bool,
-    ) -> Gauge<'r> {
+    ) -> Gauge<'r>
+        ensures { HasNoLog result }
+    {
         let begun = if is_shown {
             Instant::now(rt).ok()
         } else {
@@ -89,7 +92,9 @@ impl<'r> Gauge<'r> {
     }
 
     /// Returns the gauge with a log, if there is one.
-    pub fn with_log(self, log: Option<Log>) -> Gauge<'r> {
+    pub fn with_log(self, log: Option<Log>) -> Gauge<'r>
+        ensures { log ≡ None → HasNoLog result }
+    {
         Gauge { log, ..self }
     }
 
@@ -187,7 +192,8 @@ impl<'r> Gauge<'r> {
     ///
     /// If standard error failed.
     pub fn end_log(&self, status: u8) -> io::Result<u8>
-        ensures { IfOk result (λ ended. (ended ≡ status) ⊎ (ended ≡ 3)) }
+        ensures ended { IfOk result (λ ended. (ended ≡ status) ⊎ (ended ≡ 3)) }
+        ensures unlogged { HasNoLog self.now → IfOk result (λ ended. ended ≡ status) }
     {
         let Some(log) = &self.log else {
             return Ok(status);

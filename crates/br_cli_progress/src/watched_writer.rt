@@ -1,10 +1,12 @@
 //! A writer that reports the files of the manifest.
-ghost use Rattle.std.specs.Prelude.{◌≡◌};
+ghost use Rattle.std.specs.Prelude.{◌≡◌, OnOk};
+ghost use Rattle.std.specs.Io.KnownBytes.{Keeps};
 
 use crate::gauge::Gauge;
 use crate::passed_faults::Faults;
 use crate::passed_lines::PassedLines;
 use br_bsr::{Bootstrap, read_bootstrap};
+use br_engine::Flush;
 use br_types::FileKey;
 use std::io::{self, Write};
 
@@ -69,7 +71,7 @@ fn plan_in(gauge: &Gauge<'_>, text: &[u8]) -> Option<Bootstrap> {
     Some(bootstrap)
 }
 
-impl<'g, 'r, W: Write> Write for WatchedWriter<'g, 'r, W> {
+impl<'g, 'r, W: Flush> Write for WatchedWriter<'g, 'r, W> {
     ghost contents = { λ w. W.contents w.inner };
 
     fn write(&mut self, buf: &[u8]) -> io::Result<usize> {
@@ -83,9 +85,12 @@ impl<'g, 'r, W: Write> Write for WatchedWriter<'g, 'r, W> {
         written
     }
 
-    fn flush(&mut self) -> io::Result<()> {
+    fn flush(&mut self) -> io::Result<()>
+        ensures bytes { Keeps (W.contents self.old.inner) (W.contents self.new.inner) }
+        ensures flushed { OnOk result (W.is_flushed self.new.inner) }
+    {
         self.gauge.clear();
-        let flushed = self.inner.flush();
+        let flushed = self.inner.flush_all();
         if let Some(number) = self.lines.refused.take() {
             self.gauge.explain(number);
         }

@@ -3,3 +3,4 @@ pub mod OwnLaws
 pub mod OriginLaws
 pub mod AskingLaws
 mod AbsentExamples
+mod AskedExamples

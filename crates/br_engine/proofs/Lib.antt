@@ -6,8 +6,10 @@ pub mod LikeLaws
 pub mod EndLaws
 pub mod AgainLaws
 pub mod StopLaws
+pub mod PathLaws
 mod FlagLaws
 mod BackLaws
 pub mod RestoreLaws
 pub mod KeptLaws
+mod NewestFlagsExamples
 pub mod OlderLaws

@@ -1,3 +1,4 @@
 mod LineLaws
 mod VolumeLaws
 mod ListedLaws
+mod LineExamples

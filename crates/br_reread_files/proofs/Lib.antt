@@ -8,4 +8,5 @@ mod StatLaws
 mod TurnLaws
 mod TwoLaws
 pub mod AgainLaws
+mod AgainExamples
 pub mod MeantLaws

@@ -1,5 +1,5 @@
 -- Files that several drives make side by side.
-use Rattle.std.specs.Prelude.{◌≡◌, ◌<◌, ◌≤◌, ℕ, List, ◌++◌, length, map, flat_map, reverse, slice_index_or, Option, Err, OnOk}
+use Rattle.std.specs.Prelude.{◌≡◌, ◌<◌, ◌≤◌, ℕ, List, ◌++◌, length, map, flat_map, reverse, slice_index_or, Option, Result, Ok, Err, OnOk, ⊤}
 use Rattle.std.specs.List.{AllByRecursion, AllZip}
 use Rattle.br_model.specs.Bootstrap.{Group}
 use Rattle.br_model.specs.Name.{FileKey}
@@ -7,7 +7,8 @@ use Rattle.br_model.specs.Volume.{Volume}
 use Rattle.br_join.specs.Outcome.{restored}
 use Rattle.br_join.specs.declared.item.Outcome.{Outcome}
 use Rattle.br_data.specs.ManyDrives.{GoesOn, RereadingMany, driven_by}
-use Rattle.br_data.specs.declared.reread_fault.AgainFault.TheVariants.{Changed}
+use Rattle.br_data.specs.declared.reread_fault.AgainFault.{AgainFault}
+use Rattle.br_data.specs.declared.reread_fault.AgainFault.TheVariants.{Changed, Failed, Memory}
 use Rattle.br_join.specs.Runs.{Run, file_of}
 use Rattle.br_reread_files.specs.Runs.{AreFirst, GivesRuns, StayFirst}
 use Rattle.br_reread_files.specs.declared.sharing.FileShare.{FileShare}
@@ -19,6 +20,14 @@ pub record IsBegun (w : Work) : Type 0 where
   pub first : AreFirst w.runs.now (map restored w.made.items)
   pub all : OnOk w.end (length w.runs.now ≤ length w.made.items)
   pub unchanged : w.end ≡ Err Changed → ⊥
+
+-- a work that ran out of memory, or met changed data, fails for the same reason; one that made all
+-- its files does not fail
+abbrev pub EndsAsBegun : Result (Unit {0}) AgainFault → Result (Unit {0}) AgainFault → Type 0
+EndsAsBegun (Ok u) result = result ≡ Ok u
+EndsAsBegun (Err Memory) result = result ≡ Err Memory
+EndsAsBegun (Err Changed) result = result ≡ Err Changed
+EndsAsBegun (Err Failed) result = ⊤
 
 -- the files of the works, one work after another
 abbrev pub runs_in : List Work → List Run

@@ -3,7 +3,7 @@ ghost use Rattle.std.specs.Prelude.{◌≡◌, ◌++◌, [], Err, IfOk, OnOk};
 ghost use Rattle.br_data.specs.declared.reread_fault.AgainFault.TheVariants.{Changed, Failed};
 ghost use Rattle.br_data.specs.ManyDrives.{GoOn, HaveFailed};
 ghost use Rattle.br_reread_files.specs.Runs.{GivesRuns};
-ghost use Rattle.br_reread_files.specs.Sharing.{AppendsIfGiven, AreAllIfGiven, AreGivenBegun, IsBegun, MakesAllIfGiven};
+ghost use Rattle.br_reread_files.specs.Sharing.{AppendsIfGiven, AreAllIfGiven, AreGivenBegun, EndsAsBegun, IsBegun, MakesAllIfGiven};
 
 use crate::file_pairs::make_left;
 use crate::file_run::FileRun;
@@ -48,6 +48,7 @@ impl<'r, 'h> Work<'r, 'h> {
         many: &mut OverMany<'_, D>,
     ) -> Result<(), AgainFault>
         ensures files { OnOk result (MakesAllIfGiven many.old self.old self.new) }
+        ensures ended { EndsAsBegun self.old.end result }
         ensures on { GoOn many.old many.new }
         ensures changed { result ≡ Err Changed → GivesRuns many.old self.old.runs.now → IsBegun self.old → ⊥ }
         ensures failed { result ≡ Err Failed → HaveFailed many.old many.new }

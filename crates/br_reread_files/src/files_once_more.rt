@@ -1,5 +1,5 @@
 //! Files that are made once more.
-ghost use Rattle.std.specs.Prelude.{◌≡◌, ◌<◌, ◌∷◌, ◌++◌, [], length, Ok, Err, IfOk, OnErr, OnOk};
+ghost use Rattle.std.specs.Prelude.{◌≡◌, ◌<◌, ◌∷◌, ◌++◌, [], length, Ok, Err, IfErr, IfOk, OnErr, OnOk};
 ghost use Rattle.std.specs.List.{AllZip};
 ghost use Rattle.br_data.specs.declared.reread_fault.AgainFault.TheVariants.{Changed, Failed};
 ghost use Rattle.br_join.specs.Outcome.{shown};
@@ -29,6 +29,7 @@ fn file_like(outcome: Outcome, item: &Item) -> Result<Item, AgainFault>
     ensures same { IfOk result (λ made. shown outcome ≡ Ok made) }
     ensures changed { OnErr result (shown outcome ≡ Ok item.now → ⊥) }
     ensures never { result ≡ Err Failed → ⊥ }
+    ensures only { IfErr result (λ fault. fault ≡ Changed) }
 {
     let Outcome::File(made) = outcome else {
         return Err(AgainFault::Changed);

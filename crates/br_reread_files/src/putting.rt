@@ -10,7 +10,7 @@ ghost use Rattle.br_reread_parts.specs.FileParts.{GivesFile, PutsAlike};
 ghost use Rattle.br_reread_files.specs.FileParts.{GivesItem};
 
 use crate::files_once_more::item_once_more;
-use br_data::{AgainFault, OverMany};
+use br_data::OverMany;
 use br_join::Item;
 use br_match::Hit;
 use br_records::{SPARSE_DATA, around};
@@ -75,8 +75,6 @@ pub(crate) fn put_whole<D: Drive, S: Sink>(
             sink.put(&made)?;
             Ok(())
         }
-        Err(AgainFault::Memory) => Err(PartsFault::Memory),
-        Err(AgainFault::Failed) => Err(PartsFault::NoDriveLeft),
-        Err(AgainFault::Changed) => Err(PartsFault::Changed),
+        Err(fault) => Err(PartsFault::from(fault)),
     }
 }

@@ -11,8 +11,8 @@ use Rattle.br_sink.specs.declared.file_parts.PartsFault.{PartsFault}
 use Rattle.br_sink.specs.declared.two_parts.TwoPut.{TwoPut}
 use Rattle.br_sink.specs.declared.two_parts.TwoPut.TheVariants.{Both, One, Neither}
 use Rattle.br_reread_parts.specs.FileParts.{WritesFew}
-use Rattle.br_reread_parts.specs.Steps.{IfBoth, IfPut, OpensFile, PutsOn, Step, end_of, step_of}
-use Rattle.br_reread_parts.specs.TwoParts.{AreReadSame, ComesOf, EndsAs, GivesTwo}
+use Rattle.br_reread_parts.specs.Steps.{IfBoth, IfPut, OpensFile, PutsOn, Step, either_fault, end_of, step_of}
+use Rattle.br_reread_parts.specs.TwoParts.{AreReadSame, ComesOf, EndsAs, FailsBy, GivesTwo}
 use Rattle.br_reread_parts.specs.declared.ahead.Ahead.{Ahead}
 use Rattle.br_reread_parts.proofs.PartLaws.{some_of_few}
 use Rattle.br_reread_parts.proofs.StepLaws.{whole_same, whole_written}
@@ -94,6 +94,14 @@ first_same (Some why) first second one other same = same
 pub second_same : (fault : Option PartsFault) (first second : List ℕ) (one other : Item) → AreReadSame (Ok fault) first second one other → IfPut fault (second ≡ other.bytes)
 second_same None first second one other same = same.1
 second_same (Some why) first second one other same = tt
+
+-- a file is not put for this reason, or counts as changed, also if the reason is that of the first or the second file
+pub fails_none : (two : TwoPut) (fault : Option PartsFault) → fault ≡ None → FailsBy two None → FailsBy two fault
+fails_none two fault is by = subst (λ (f : Option PartsFault). FailsBy two f) (sym is) by
+
+pub fails_either : (two : TwoPut) (put : Result (Option PartsFault) PartsFault) (fault : Option PartsFault) → put ≡ Ok fault → FailsBy two fault
+    → FailsBy two (either_fault put)
+fails_either two put fault is by = subst (λ (p : Result (Option PartsFault) PartsFault). FailsBy two (either_fault p)) (sym is) by
 
 -- what follows if the second file did not fail, follows
 pub put_of_none : {P : Type 0} (fault : Option PartsFault) → fault ≡ None → IfPut fault P → P

@@ -1,5 +1,5 @@
 -- Two files whose plain data are read again and written side by side.
-use Rattle.std.specs.Prelude.{◌≡◌, ℕ, List, Option, Some, None, Result, Ok, Err, ⊤}
+use Rattle.std.specs.Prelude.{◌≡◌, ◌⊎◌, ℕ, List, Option, Some, None, Result, Ok, Err, IfSome, ⊤}
 use Rattle.br_model.specs.File.{Item}
 use Rattle.br_model.specs.Meaning.{Hit}
 use Rattle.br_data.specs.ManyDrives.{RereadingMany}
@@ -35,6 +35,10 @@ AreReadSame (Err _) first second one other = ⊤
 -- a file of the two counts as changed only if this fault says so
 abbrev pub IsChangedBy : TwoPut → Option PartsFault → Type 0
 IsChangedBy two fault = why_of two ≡ Some parts.Changed → fault ≡ Some parts.Changed
+
+-- a file of the two is not put for this reason, or counts as changed
+abbrev pub FailsBy : TwoPut → Option PartsFault → Type 0
+FailsBy two fault = IfSome (why_of two) (λ why. (fault ≡ Some why) ⊎ (why ≡ parts.Changed))
 
 -- these are the bytes that were read, as many as the item has, with the same digest
 abbrev pub AreRead : List ℕ → List ℕ → Item → Type 0

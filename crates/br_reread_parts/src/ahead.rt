@@ -1,5 +1,5 @@
 //! A file whose data are written a window at a time, while those of the next window are read.
-ghost use Rattle.std.specs.Prelude.{◌≡◌, ◌<◌, ◌++◌, length, Err, IfOk, OnOk};
+ghost use Rattle.std.specs.Prelude.{◌≡◌, ◌<◌, ◌++◌, length, Err, IfErr, IfOk, OnOk};
 ghost use Rattle.br_data.specs.ManyDrives.{GoOn, HaveFailed};
 ghost use Rattle.br_sink.specs.FileParts.{AreAlike};
 ghost use Rattle.br_sink.specs.declared.file_parts.PartsFault.TheVariants as why;
@@ -169,6 +169,7 @@ pub(crate) fn finish(alloc: Global, reading: Reading, item: &Item) -> Result<Fil
     ensures bytes { IfOk result (λ bytes. bytes ≡ reading) }
     ensures changed { result ≡ Err why.Changed → reading ≡ item.now.bytes → ⊥ }
     ensures lost { result ≡ Err why.NoDriveLeft → ⊥ }
+    ensures only { IfErr result (λ fault. fault ≡ why.Changed) }
     ensures alike { IfOk result (λ bytes. AreAlike bytes item.now.bytes) }
 {
     let bytes = reading.finish(alloc);

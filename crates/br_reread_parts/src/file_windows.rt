@@ -1,6 +1,8 @@
 //! Windows of a file of which the plain data are read again and written.
 ghost use Rattle.std.specs.Prelude.{◌≡◌, ◌+◌, ◌<◌, length, Err, IfOk, OnErr, OnOk};
 ghost use Rattle.std.specs.Io.KnownBytes.{Appends};
+ghost use Rattle.std.specs.IoError.{error_kind};
+ghost use Rattle.std.specs.declared.io.ErrorKind.TheVariants.{OutOfMemory};
 ghost use Rattle.br_join.specs.Plain.{plain_bytes};
 ghost use Rattle.br_records.specs.Records.{fragments};
 ghost use Rattle.br_data.specs.ManyDrives.{GoOn, HaveFailed};
@@ -10,7 +12,7 @@ ghost use Rattle.br_reread_parts.specs.Given.{GivesHit, GivesHits};
 ghost use Rattle.br_reread_parts.specs.Windows.{AppendsPlain, data_bytes};
 
 use crate::windows::push_data;
-use br_data::{AgainFault, Data, OverMany, standing_stays, write_bytes};
+use br_data::{Data, OverMany, standing_stays, write_bytes};
 use br_match::Hit;
 use br_records::DATA;
 use br_sink::PartsFault;
@@ -19,8 +21,10 @@ use std::alloc::Global;
 use std::io;
 use std::io::{ErrorKind, Write};
 
-/// Returns the fault of a file whose writer failed.
+/// Returns the fault of a file whose writer failed: `Memory` if memory ran out, else `Fault`.
 fn write_fault(error: io::Error) -> PartsFault
+    ensures memory { result ≡ why.Memory → error_kind error ≡ OutOfMemory }
+    ensures fault { result ≡ why.Fault → error_kind error ≡ OutOfMemory → ⊥ }
     ensures changed { result ≡ why.Changed → ⊥ }
     ensures lost { result ≡ why.NoDriveLeft → ⊥ }
 {
@@ -48,9 +52,7 @@ fn read_part<D: Drive>(
 {
     match many.read(alloc, hit.spot, &hit.data) {
         Ok(read) => Ok(read),
-        Err(AgainFault::Memory) => Err(PartsFault::Memory),
-        Err(AgainFault::Failed) => Err(PartsFault::NoDriveLeft),
-        Err(AgainFault::Changed) => Err(PartsFault::Changed),
+        Err(fault) => Err(PartsFault::from(fault)),
     }
 }
 
@@ -112,6 +114,7 @@ fn write_next<W: Write>(left: &mut u64, bytes: &[u8], writer: &mut W) -> Result<
     ensures left { OnOk result (left.new + length bytes.now ≡ left.old) }
     ensures written { OnOk result (Appends (W.contents writer.old) (W.contents writer.new) bytes.now) }
     ensures changed { result ≡ Err why.Changed → left.old < length bytes.now }
+    ensures more { left.old < length bytes.now → result ≡ Err why.Changed }
     ensures lost { result ≡ Err why.NoDriveLeft → ⊥ }
     ensures front { OnErr result (WritesFew left.old (W.contents writer.old) (W.contents writer.new)) }
 {

@@ -4,7 +4,7 @@ ghost use Rattle.br_data.specs.ManyDrives.{GoOn, HaveFailed};
 ghost use Rattle.br_sink.specs.TwoParts.{AreTwoAlike, AreTwoSame, IsLost, NotChanged, WritesTwo, held_by};
 ghost use Rattle.br_sink.specs.declared.file_parts.PartsFault.TheVariants as why;
 ghost use Rattle.br_reread_parts.specs.Steps.{IfPut, either_fault};
-ghost use Rattle.br_reread_parts.specs.TwoParts.{AreReadSame, ComesOf, EndsAs, GivesTwo, IsChangedBy};
+ghost use Rattle.br_reread_parts.specs.TwoParts.{AreReadSame, ComesOf, EndsAs, FailsBy, GivesTwo, IsChangedBy};
 
 use crate::ahead::finish;
 use crate::both::{BothRead, PlainFile, open_two, put_both};
@@ -21,6 +21,7 @@ use std::thread::Threads;
 /// its end.
 fn after_both(alloc: Global, one: FileBytes, reading: Reading, other: &Item) -> TwoPut
     ensures ends { EndsAs result None one reading other.now }
+    ensures reason { FailsBy result None }
     ensures changed { reading ≡ other.now.bytes → NotChanged result }
     ensures lost { IsLost result → ⊥ }
 {
@@ -40,6 +41,7 @@ fn after_first(
     other: &Item,
 ) -> TwoPut
     ensures ends { EndsAs result fault one reading other.now }
+    ensures reason { FailsBy result fault }
     ensures changed { IfPut fault (reading ≡ other.now.bytes) → IsChangedBy result fault }
     ensures lost { IsLost result → fault ≡ Some why.NoDriveLeft }
 {
@@ -59,6 +61,7 @@ fn after_reading(
     other: &Item,
 ) -> TwoPut
     ensures comes { ComesOf result (Ok fault) read.one read.other one.now other.now }
+    ensures reason { FailsBy result fault }
     ensures changed { AreReadSame (Ok fault) read.one read.other one.now other.now → IsChangedBy result fault }
     ensures lost { IsLost result → fault ≡ Some why.NoDriveLeft }
 {
@@ -81,6 +84,7 @@ fn two_put(
     other: &Item,
 ) -> TwoPut
     ensures comes { ComesOf result put read.one read.other one.now other.now }
+    ensures reason { FailsBy result (either_fault put) }
     ensures changed { AreReadSame put read.one read.other one.now other.now → IsChangedBy result (either_fault put) }
     ensures lost { IsLost result → either_fault put ≡ Some why.NoDriveLeft }
 {

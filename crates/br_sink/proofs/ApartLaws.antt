@@ -37,10 +37,10 @@ left_first paths r rs free = (
   ap (λ b. cond b (conflicts_beside (with_path paths (item_of r)) rs) (with_path [] (item_of r) ++ conflicts_beside paths rs)) free,
 )
 
-items_none : (r : Restored) (rs : List Restored) → item_of r ≡ None → filter_map item_of (r ∷ rs) ≡ filter_map item_of rs
+pub items_none : (r : Restored) (rs : List Restored) → item_of r ≡ None → filter_map item_of (r ∷ rs) ≡ filter_map item_of rs
 items_none r rs e = rw e refl
 
-items_some : (r : Restored) (rs : List Restored) (item : Item) → item_of r ≡ Some item → filter_map item_of (r ∷ rs) ≡ item ∷ filter_map item_of rs
+pub items_some : (r : Restored) (rs : List Restored) (item : Item) → item_of r ≡ Some item → filter_map item_of (r ∷ rs) ≡ item ∷ filter_map item_of rs
 items_some r rs item e = rw e refl
 
 not_free : (b : Bool) → b ≡ false → not b ≡ true

@@ -5,3 +5,6 @@ pub mod LeavingLaws
 pub mod ApartLaws
 pub mod PassingLaws
 pub mod NotedLaws
+mod ApartGoesOnLaws
+mod ApartExamples
+mod SinkExamples

@@ -50,6 +50,17 @@ KeptAreApart = (rs : List Restored) → AreApart (filter_map item_of (apart rs))
 abbrev pub ApartStayWhole : Type 0
 ApartStayWhole = (rs : List Restored) → AreApart (filter_map item_of rs) → (apart rs ≡ rs) × (conflicts rs ≡ [])
 
+-- the paths of the files
+abbrev pub paths_in : List Restored → List (List ℕ)
+paths_in rs = map (λ (i : Item). i.path) (filter_map item_of rs)
+
+-- One more outcome is kept exactly if it conflicts with none of those that are kept. So no other
+-- list without conflicts keeps more of what comes first.
+abbrev pub ApartGoesOn : Type 0
+ApartGoesOn =
+    (rs : List Restored) (r : Restored)
+    → apart (rs ++ r ∷ []) ≡ (if is_free (paths_in (apart rs)) (item_of r) then apart rs ++ r ∷ [] else apart rs)
+
 -- ---- the search
 
 -- Whichever paths are noted: a wanted outcome is kept if it conflicts with none of them, and then

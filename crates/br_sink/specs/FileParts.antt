@@ -3,6 +3,8 @@ use Rattle.std.specs.Prelude.{◌≡◌, ℕ, ◌≤◌, List, length, Option}
 use Rattle.std.specs.Io.KnownBytes.{Appends}
 use Rattle.md5.specs.Md5.{md5}
 use Rattle.br_model.specs.File.{Item}
+use Rattle.br_data.specs.declared.reread_fault.AgainFault.{AgainFault}
+use Rattle.br_data.specs.declared.reread_fault.AgainFault.TheVariants as again
 use Rattle.br_sink.specs.declared.fault.SinkFault.{SinkFault}
 use Rattle.br_sink.specs.declared.fault.SinkFault.TheVariants as sink
 use Rattle.br_sink.specs.declared.file_parts.PartsFault.{PartsFault}
@@ -19,6 +21,12 @@ parts_number parts.Changed = 72
 abbrev pub parts_fault : SinkFault → PartsFault
 parts_fault sink.Memory = parts.Memory
 parts_fault sink.Fault = parts.Fault
+
+-- the fault of a file whose data can't be read again
+abbrev pub again_fault : AgainFault → PartsFault
+again_fault again.Memory = parts.Memory
+again_fault again.Failed = parts.NoDriveLeft
+again_fault again.Changed = parts.Changed
 
 -- the same number of bytes, with the same digest
 abbrev pub AreAlike : List ℕ → List ℕ → Type 0

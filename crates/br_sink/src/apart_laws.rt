@@ -1,5 +1,5 @@
 //! Laws of a delivery that leaves out conflicts.
-ghost use Rattle.br_sink.specs.ConflictsApart.{ApartStayWhole, KeptAreApart};
+ghost use Rattle.br_sink.specs.ConflictsApart.{ApartGoesOn, ApartStayWhole, KeptAreApart};
 
 /// No two of the files that are kept conflict.
 pub fn kept_are_apart()
@@ -9,4 +9,9 @@ pub fn kept_are_apart()
 /// If no two files conflict, none is left out.
 pub fn apart_stay_whole()
     ensures { ApartStayWhole }
+{}
+
+/// One more outcome is kept exactly if it conflicts with none of those that are kept.
+pub fn apart_goes_on()
+    ensures { ApartGoesOn }
 {}

@@ -2,10 +2,11 @@
 ghost use Rattle.std.specs.Prelude.{◌≡◌, Err, IfOk, OnErr};
 ghost use Rattle.std.specs.Io.KnownBytes.{Appends};
 ghost use Rattle.br_model.specs.File as model;
-ghost use Rattle.br_sink.specs.FileParts.{AreAlike, WritesSome, parts_fault, parts_number, with_bytes};
+ghost use Rattle.br_sink.specs.FileParts.{AreAlike, WritesSome, again_fault, parts_fault, parts_number, with_bytes};
 ghost use Rattle.br_sink.specs.declared.file_parts.PartsFault.TheVariants as why;
 
 use crate::fault::SinkFault;
+use br_data::AgainFault;
 use br_join::{FileBytes, Item};
 use std::alloc::{AllocError, Global};
 use std::io::Write;
@@ -56,6 +57,18 @@ impl From<SinkFault> for PartsFault {
         match fault {
             SinkFault::Memory => PartsFault::Memory,
             SinkFault::Fault => PartsFault::Fault,
+        }
+    }
+}
+
+impl From<AgainFault> for PartsFault {
+    ghost from_gives = { λ fault e. e ≡ again_fault fault };
+
+    fn from(fault: AgainFault) -> PartsFault {
+        match fault {
+            AgainFault::Memory => PartsFault::Memory,
+            AgainFault::Failed => PartsFault::NoDriveLeft,
+            AgainFault::Changed => PartsFault::Changed,
         }
     }
 }

@@ -28,7 +28,7 @@ mod report;
 mod sink;
 mod two_parts;
 
-pub use apart_laws::{apart_stay_whole, kept_are_apart};
+pub use apart_laws::{apart_goes_on, apart_stay_whole, kept_are_apart};
 pub use br_join::Item;
 pub use conflicts_apart::{Apart, keep_apart};
 pub use delivered_files::DeliveredFiles;

@@ -7,4 +7,5 @@ pub mod EmptyLaws
 pub mod ThereLaws
 pub mod TwoLaws
 pub mod LikeLaws
+mod ResumingExamples
 pub mod OtherLaws

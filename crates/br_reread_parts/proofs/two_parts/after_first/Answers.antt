@@ -1,6 +1,12 @@
-use Rattle.std.proofs.Common.{◌∙◌}
-use Rattle.br_reread_parts.proofs.TwoLaws.{put_of_none}
+use Rattle.std.proofs.Common.{◌∙◌, inl}
+use Rattle.br_reread_parts.proofs.TwoLaws.{fails_none, put_of_none}
 use Rattle.br_reread_parts.proofs.two_parts.after_first.Goals as goal
+
+pub returns-in-Some-clause-reason : goal.returns-in-Some-clause-reason
+returns-in-Some-clause-reason c = inl c.in-Some.is
+
+pub returns-in-None-clause-reason : goal.returns-in-None-clause-reason
+returns-in-None-clause-reason c = fails_none c.after_both.result c.args.fault c.in-None.is c.after_both.ensures.reason
 
 pub returns-in-Some-clause-changed : goal.returns-in-Some-clause-changed
 returns-in-Some-clause-changed c = λ put is. c.in-Some.is ∙ is
