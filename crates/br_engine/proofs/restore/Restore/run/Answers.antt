@@ -1,5 +1,4 @@
-use Rattle.std.proofs.Common.{◌≡◌, List, map, subst, sym}
-use Rattle.std.specs.List.{AllZip}
+use Rattle.std.proofs.Common.{◌≡◌, List, map, subst}
 use Rattle.std.specs.Prelude.{option_map}
 use Rattle.std.proofs.KnownBytes.{Keeps-refl}
 use Rattle.std.specs.Io.KnownBytes.{Appends}
@@ -7,14 +6,11 @@ use Rattle.std.proofs.lemmas.Result.{err_from_is_err_and}
 use Rattle.br_model.specs.Bootstrap.{Group}
 use Rattle.br_model.specs.Manifest.{manifest}
 use Rattle.br_model.specs.Meaning.{pieces_of}
-use Rattle.br_model.specs.Name.{FileKey}
 use Rattle.br_model.specs.Restored.{planned_in}
 use Rattle.br_model.specs.Volume.{Volume}
 use Rattle.br_join.specs.Outcome.{restored}
-use Rattle.br_join.specs.declared.item.Outcome.{Outcome}
-use Rattle.br_engine.specs.DeliveredAgain.{CanGive, EndsLike, IsFileLike}
-use Rattle.br_engine.specs.Restores.{IsStopPath}
-use Rattle.br_engine.specs.Restoring.{AllStand, Outcomes}
+use Rattle.br_engine.specs.DeliveredAgain.{CanGive, EndsLike}
+use Rattle.br_engine.specs.Restoring.{AllStand}
 use Rattle.br_engine.specs.declared.fault.ExtractFault.TheVariants.{Memory}
 use Rattle.br_engine.specs.Outputs.{StopsOnlyIf}
 use Rattle.br_engine.proofs.AgainLaws.{fail_later, nothing_written, only_grow, stand_midst, stay_on}
@@ -119,21 +115,6 @@ returns-clause-restores g c =
     (subst (λ os. EndsLike (CanGive shows failures second c.groups-groups.result.now made.gathered (map restored os)) had has (map restored os) c.deliver_made-end.result) c.keep_delivered.ensures
     c.deliver_made-end.ensures.ends))
     (rw c.deref.ensures.value at c.in_ok-prepared.ensures.missing) (rw c.deref.ensures.value at c.in_ok-prepared.ensures.left)
-
-pub returns-clause-outcomes : goal.returns-clause-outcomes
-returns-clause-outcomes g c =
-    let ends = c.deliver_made-end.ensures.ends in (
-      ends.rs,
-      subst (λ (os : Outcomes). AllZip IsFileLike ends.rs (map restored os.items)) (sym c.replace-outcomes.ensures.value) ends.like,
-      ends.ends.1,
-    )
-
-pub returns-clause-stopped_at : goal.returns-clause-stopped_at
-returns-clause-stopped_at g c =
-    let end = c.deliver_made-end.result in
-    let path = c.path_at_stop-stopped_at.result in
-    subst (λ (os : Outcomes). IsStopPath os.items end path) (sym c.replace-outcomes.ensures.value)
-    (subst (λ (os : List (FileKey × Outcome)). IsStopPath os end path) c.deref-3.ensures.value c.path_at_stop-stopped_at.ensures)
 
 pub returns-clause-changed : goal.returns-clause-changed
 returns-clause-changed g c =
