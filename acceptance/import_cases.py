@@ -285,6 +285,13 @@ def rows_outside_all_spans(rows, kept):
 
 
 @case
+def rows_in_a_gap_between_spans(rows, kept):
+    rows["JobMedia"] = [span(1, 1, 1, 1, 206, 600), span(3, 1, 3, 3, 601, 1172, index=2), span(2, 2, 1, 1, 1173, 1655)]
+    kept["JobMedia"] = [span(1, 1, 1, 1, 206, 600), span(2, 1, 3, 3, 601, 1172, index=2), span(3, 2, 1, 1, 1173, 1655)]
+    return ["outside 1 1"]
+
+
+@case
 def file_sets_of_one_name(rows, kept):
     rows["FileSet"] = [(3, b"Home"), (5, b"Home"), (7, b"Home of nobody")]
     rows["Job"] = [job(1, b"F", FileSetId=3), job(2, FileSetId=5)]
