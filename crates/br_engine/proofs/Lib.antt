@@ -6,6 +6,7 @@ pub mod LikeLaws
 pub mod EndLaws
 pub mod AgainLaws
 pub mod StopLaws
+pub mod PathLaws
 mod FlagLaws
 mod BackLaws
 pub mod RestoreLaws

@@ -1,8 +1,8 @@
 -- Copies that are counted, and how the counts are to each other.
-use Rattle.std.proofs.Common.{◌≡◌, ◌≤◌, ◌+◌, ◌-◌, ◌^◌, ℕ, suc, Bool, true, false, not, if◌then◌else◌, List, [], ◌∷◌, Option, Some, None, filter, length, map, min, arith, refl, ap, sym, ◌∙◌}
+use Rattle.std.proofs.Common.{◌≡◌, ◌≤◌, ◌+◌, ◌-◌, ◌^◌, ℕ, suc, Bool, true, false, not, if◌then◌else◌, List, [], ◌∷◌, Option, Some, None, filter, length, min, arith, refl, ap, sym, ◌∙◌}
 use Rattle.std.specs.List.{cons_option, list_any}
 use Rattle.br_model.specs.Restored.{Restored}
-use Rattle.br_types.specs.Newest.{Copy, copies_of, copy_of, is_current, is_newest, is_of, is_outdated}
+use Rattle.br_types.specs.Newest.{Copy, copies_of, copy_of, is_current, is_of, is_outdated}
 use Rattle.br_engine.specs.OlderCounts.{and_one, counts, lasts, lasts_that, older, on_top}
 
 -- a number that is capped, and one more

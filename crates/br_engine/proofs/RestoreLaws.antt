@@ -1,6 +1,6 @@
 -- What is delivered of the outcomes of a restore, and what comes of it.
 use Rattle.std.proofs.Common.{◌≡◌, ℕ, Bool, true, false, cond, List, [], ◌∷◌, ◌&&◌, Option, None, Result, Ok, Err, refl, sym, ap, subst, ◌∙◌}
-use Rattle.std.specs.Prelude.{is_ok, filter, option_map}
+use Rattle.std.specs.Prelude.{IfOk, is_ok, filter, map, option_map}
 use Rattle.std.specs.List.{AllZip, list_all}
 use Rattle.std.specs.Io.KnownBytes.{Appends}
 use Rattle.br_model.specs.Answer.{IsRefusal}
@@ -13,6 +13,7 @@ use Rattle.br_model.specs.Meaning.{pieces_of}
 use Rattle.br_model.specs.Name.{FileKey}
 use Rattle.br_model.specs.Restored.{Names, Planned, Restored, planned_in}
 use Rattle.br_model.specs.Volume.{Volume}
+use Rattle.br_join.specs.Outcome.{restored}
 use Rattle.br_types.specs.Newest.{Copy, copies_of, copy_of, is_current, is_newest, newest}
 use Rattle.br_engine.specs.DeliveredAgain.{EndsLike, IsFileLike}
 use Rattle.br_engine.specs.BootstrapText.{ReadsAs}
@@ -33,7 +34,7 @@ use Rattle.br_types.specs.declared.wanted.Stops.TheVariants.{AtFirst, Never}
 use Rattle.br_types.specs.declared.wanted.Wanted.{Wanted}
 use Rattle.br_sink.specs.ConflictsApart.{apart_beside, is_free, with_path}
 use Rattle.br_engine.specs.WantedOutcomes.{delivered, kept, left_out, of_copies, plain, reported}
-use Rattle.br_engine.specs.Restores.{Change, Extracts, OnlyIfChanged, Restores}
+use Rattle.br_engine.specs.Restores.{AreWanted, Change, Extracts, OnlyIfChanged, Restores}
 use Rattle.br_engine.specs.declared.extracted.Extracted.{Extracted}
 use Rattle.br_engine.specs.declared.restore_order.RestoreOrder.{RestoreOrder}
 use Rattle.br_engine.proofs.BackLaws.{in_places, same_report}
@@ -167,6 +168,19 @@ text_restores known earlier later before after had has text groups reports (Ok d
     (h.0, (over_read known earlier later text groups (λ expected. expected ≡ Ok h.0) alike read h.1.0, h.1.1), h.2, h.3, h.4, h.5)
 text_restores known earlier later before after had has text groups reports (Err fault) alike read h =
     (over_read known earlier later text groups (λ expected. IsRefusal (cause fault) expected) alike read h.0, h.1, h.2)
+
+-- so are the outcomes of its files
+pub text_wanted : (known : Option (List ℕ)) (earlier later : Told) (text : List ℕ) (groups : List Group) (order : RestoreOrder) (result : Result Extracted ExtractFault)
+    → ReadsAs text known → read_bootstrap text ≡ Ok groups → order.asked.bootstrap.now ≡ groups → order.names ≡ None → order.wanted ≡ plain
+    → AreWanted order.wanted (λ holds. OverVolumes earlier later order.asked.bootstrap.now (option_map planned_in order.names) holds) result
+    → AreWanted plain (λ holds. OverText known earlier later holds) result
+text_wanted known earlier later text groups order (Ok done) alike read asked named wanted h =
+    let says : Wanted → Said = λ w expected. IfOk expected (λ rs. map restored done.outcomes.items ≡ delivered w rs) in
+    let over : Wanted → Option Names → List Group → Type 0 = λ w names gs. OverVolumes earlier later gs (option_map planned_in names) (says w) in
+    over_read known earlier later text groups (says plain) alike read
+    (subst (over plain None) asked (subst (λ (ns : Option Names). over plain ns order.asked.bootstrap.now) named
+    (subst (λ (w : Wanted). over w order.names order.asked.bootstrap.now) wanted h)))
+text_wanted known earlier later text groups order (Err fault) alike read asked named wanted h = tt
 
 -- ---- a volume that was changed
 

@@ -1,17 +1,26 @@
 -- A restore by an order: its manifest, the delivery of its files, and the report of what is
 -- missing.
-use Rattle.std.specs.Prelude.{◌≡◌, ℕ, List, [], ◌++◌, map, Option, option_map, Result, Ok, Err, IfOk}
+use Rattle.std.specs.Prelude.{◌≡◌, ℕ, List, [], ◌++◌, map, Option, option_map, None, Some, Result, Ok, Err, IfOk, IfSome, slice_get}
+use Rattle.std.specs.List.{AllZip}
 use Rattle.std.specs.declared.io.Write as write
+use Rattle.br_model.specs.File.{Item}
+use Rattle.br_model.specs.Name.{FileKey}
 use Rattle.br_model.specs.Restored.{Restored, planned_in}
+use Rattle.br_join.specs.Outcome.{restored}
+use Rattle.br_join.specs.declared.item.Outcome.{Outcome}
 use Rattle.br_volume.specs.declared.drive.Drive as drive
 use Rattle.br_sink.specs.declared.sink.Sink as sink
+use Rattle.br_sink.specs.Delivery.{items_in}
 use Rattle.br_sink.specs.LeftOutLines.{left_lines}
+use Rattle.br_engine.specs.DeliveredAgain.{IsFileLike}
 use Rattle.br_engine.specs.Delivering.{IsPut, IsRefused, IsWritten}
 use Rattle.br_engine.specs.Extracting.{NoneStandForText, OverText, OverVolumes, Said}
 use Rattle.br_engine.specs.Outputs.{AllFail, EndTells, InSink, SinkCounts, StopsByFailure, StopsOnlyIf, end_text}
 use Rattle.br_engine.specs.Restoring.{NoneStand, Told}
 use Rattle.br_engine.specs.WantedOutcomes.{delivered, left_out, plain, reported_for}
 use Rattle.br_engine.specs.declared.extracted.Extracted.{Extracted}
+use Rattle.br_engine.specs.declared.restore_end.RestoreEnd.{RestoreEnd}
+use Rattle.br_engine.specs.declared.restore_end.RestoreEnd.TheVariants.{AllFiles, SomeFaults, Stopped}
 use Rattle.br_engine.specs.declared.fault.ExtractFault.{ExtractFault}
 use Rattle.br_engine.specs.declared.fault.ExtractFault.TheVariants.{Changed}
 use Rattle.br_engine.specs.declared.restore.Restore.{Restore}
@@ -102,3 +111,38 @@ ChangesOnly order seen result = OnlyIfChanged (NoneStand seen.old.told seen.new.
 -- the same for the bootstrap in a text, if the text is known
 abbrev pub ChangesOnlyText : Option (List ℕ) → Change → Result Extracted ExtractFault → Type 0
 ChangesOnlyText known seen result = OnlyIfChanged (NoneStandForText known seen.old.told seen.new.told) result
+
+-- ---- what the result says of the delivery
+
+-- files like those among the outcomes were put into the sink: all, or those before a stop
+abbrev pub IsPutOf : InSink → InSink → Extracted → Type 0
+IsPutOf had has done = (rs : List Restored) × AllZip IsFileLike rs (map restored done.outcomes.items) × IsPut had has done.end rs
+
+-- the outcomes of a result are what was delivered
+abbrev pub TellsDelivered : Change → Result Extracted ExtractFault → Type 0
+TellsDelivered seen result = IfOk result (IsPutOf seen.old.has seen.new.has)
+
+-- the outcomes of a result are those of the expected files that are to be delivered
+abbrev pub AreWanted : Wanted → (Said → Type 0) → Result Extracted ExtractFault → Type 0
+AreWanted wanted over result =
+    IfOk result (λ done. over (λ expected. IfOk expected (λ rs. map restored done.outcomes.items ≡ delivered wanted rs)))
+
+-- of those that the bootstrap of the order gives (the planned files if it has names)
+abbrev pub AreOrdered : RestoreOrder → Change → Result Extracted ExtractFault → Type 0
+AreOrdered order seen result =
+    AreWanted order.wanted (λ holds. OverVolumes seen.old.told seen.new.told order.asked.bootstrap.now (option_map planned_in order.names) holds) result
+
+-- of those that the bootstrap in a text gives, if the text is known
+abbrev pub AreOfText : Option (List ℕ) → Change → Result Extracted ExtractFault → Type 0
+AreOfText known seen result = AreWanted plain (λ holds. OverText known seen.old.told seen.new.told holds) result
+
+-- the path of the file at which a delivery stopped, if it is known; there is none if it did not stop
+abbrev pub IsStopPath : List (FileKey × Outcome) → RestoreEnd → Option (List ℕ) → Type 0
+IsStopPath outcomes AllFiles path = path ≡ None
+IsStopPath outcomes SomeFaults path = path ≡ None
+IsStopPath outcomes (Stopped stop) path =
+    IfSome path (λ at_it. option_map (λ (i : Item). i.path) (slice_get (items_in outcomes) stop.done) ≡ Some at_it)
+
+-- a result names the path at which its delivery stopped
+abbrev pub TellsStop : Result Extracted ExtractFault → Type 0
+TellsStop result = IfOk result (λ done. IsStopPath done.outcomes.items done.end done.stopped_at)

@@ -6,7 +6,6 @@ use Rattle.br_model.specs.Bootstrap.{Group}
 use Rattle.br_model.specs.Restored.{Restored}
 use Rattle.br_types.specs.Newest.{newest}
 use Rattle.br_sink.specs.ConflictsApart.{apart, conflicts}
-use Rattle.br_bsr.specs.Counts as counted
 use Rattle.br_piece.specs.MissingLines.{report}
 use Rattle.br_engine.specs.declared.restore_order.CountedBootstrap.{CountedBootstrap}
 use Rattle.br_types.specs.declared.wanted.Copies.{Copies}

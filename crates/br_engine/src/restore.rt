@@ -5,8 +5,8 @@ ghost use Rattle.br_pool.specs.Pool.{AreDrives, OnlyIfAllFail, StayInPlace};
 ghost use Rattle.br_engine.specs.Extracting.{WritesNothing};
 ghost use Rattle.br_engine.specs.Fault.{EndlessAfterAll, IsNoDriveLeft, IsNoLine};
 ghost use Rattle.br_engine.specs.Outputs.{SinkCounts, StopsByFailure};
-ghost use Rattle.br_engine.specs.Restores.{ChangesOnly, ChangesOnlyText, CountsFailures, Restores, RestoresText};
-ghost use Rattle.br_engine.specs.Restores.{StopIsCounted, StopIsLost, change};
+ghost use Rattle.br_engine.specs.Restores.{AreOfText, AreOrdered, ChangesOnly, ChangesOnlyText, CountsFailures, Restores, RestoresText};
+ghost use Rattle.br_engine.specs.Restores.{StopIsCounted, StopIsLost, TellsDelivered, TellsStop, change};
 ghost use Rattle.br_engine.specs.WantedOutcomes.{left_by};
 
 use crate::bootstrap_text::read_text;
@@ -71,6 +71,9 @@ impl<D: Drive + Send, S: Sink> Restore<D, S> {
         ensures places { StayInPlace D.shows D.failures self.old.drives.items self.new.drives.items }
         ensures failed { OnlyIfAllFail D.failures self.old.drives.items self.new.drives.items IsNoDriveLeft result }
         ensures lost { StopIsLost D.failures self.old self.new result }
+        ensures wanted { AreOrdered order.entry (change D.Drive W.Write S.Sink (self.old, writer.old) (self.new, writer.new)) result }
+        ensures outcomes { TellsDelivered (change D.Drive W.Write S.Sink (self.old, writer.old) (self.new, writer.new)) result }
+        ensures stopped_at { TellsStop result }
         ensures sink_counted { CountsFailures S.failures self.old self.new }
         ensures sink_failed { StopIsCounted S.failures self.old self.new result }
     {
@@ -125,6 +128,9 @@ pub fn run_extract<R: Read + Drop, D: Drive + Send, W: Flush, S: Sink>(
     ensures places { StayInPlace D.shows D.failures restore.old.drives.items restore.new.drives.items }
     ensures failed { OnlyIfAllFail D.failures restore.old.drives.items restore.new.drives.items IsNoDriveLeft result }
     ensures lost { StopIsLost D.failures restore.old restore.new result }
+    ensures wanted { AreOfText (R.remaining reader.old) (change D.Drive W.Write S.Sink (restore.old, writer.old) (restore.new, writer.new)) result }
+    ensures outcomes { TellsDelivered (change D.Drive W.Write S.Sink (restore.old, writer.old) (restore.new, writer.new)) result }
+    ensures stopped_at { TellsStop result }
     ensures sink_counted { CountsFailures S.failures restore.old restore.new }
     ensures sink_failed { StopIsCounted S.failures restore.old restore.new result }
 {

@@ -1,4 +1,5 @@
 //! The file at which a delivery stopped.
+ghost use Rattle.br_engine.specs.Restores.{IsStopPath};
 
 use crate::restore_end::RestoreEnd;
 use br_join::Outcome;
@@ -12,12 +13,17 @@ pub(crate) fn path_at_stop(
     alloc: Global,
     outcomes: &[(FileKey, Outcome)],
     end: &RestoreEnd,
-) -> Option<Path> {
+) -> Option<Path>
+    ensures { IsStopPath outcomes.now end.now result }
+{
     match end {
         RestoreEnd::AllFiles | RestoreEnd::SomeFaults => None,
         RestoreEnd::Stopped(stop) => {
             let (_, item) = file_at(outcomes, stop.done())?;
-            item.path.copy(alloc).ok()
+            match item.path.copy(alloc) {
+                Ok(path) => Some(path),
+                Err(_) => None,
+            }
         }
     }
 }

@@ -1,4 +1,4 @@
-use Rattle.std.proofs.Common.{◌≡◌, ◌∙◌}
+use Rattle.std.proofs.Common.{◌∙◌}
 use Rattle.std.proofs.lemmas.Result.{on_ok_weaker}
 use Rattle.br_engine.proofs.OlderLaws.{counted_first}
 use Rattle.br_engine.proofs.older_counts.note_copy.Goals as goal

@@ -1,4 +1,4 @@
-use Rattle.std.proofs.Common.{◌≡◌, map, min, arith, ap, sym, ◌∙◌}
+use Rattle.std.proofs.Common.{◌≡◌, map, arith, ◌∙◌}
 use Rattle.br_join.specs.Outcome.{restored}
 use Rattle.br_engine.specs.OlderCounts.{older, on_top}
 use Rattle.br_engine.proofs.OlderLaws.{none_on_top}

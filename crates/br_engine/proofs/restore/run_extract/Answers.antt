@@ -7,7 +7,7 @@ use Rattle.br_engine.specs.BootstrapText.{ReadsAs}
 use Rattle.br_engine.specs.Restores.{change}
 use Rattle.br_engine.specs.Restoring.{NoneStand}
 use Rattle.br_engine.proofs.DeliverLaws.{none_read, read_refused}
-use Rattle.br_engine.proofs.RestoreLaws.{by_plain_order, changed_weaker, text_restores}
+use Rattle.br_engine.proofs.RestoreLaws.{by_plain_order, changed_weaker, text_restores, text_wanted}
 use Rattle.br_engine.proofs.restore.run_extract.Goals as goal
 
 -- ---- the text is not read
@@ -42,6 +42,14 @@ returns-clause-restores g c =
     (option_map g.S.Sink.has c.run.new.self.sink) c.deref.result.now c.in_ok-bootstrap.bootstrap (λ rs lines. lines ≡ []) c.run.result alike c.in_ok-bootstrap.ensures.exact
     (by_plain_order c.plain.result (change g.D.Drive g.W.Write g.S.Sink (c.args.restore.now, c.args.writer.now) (c.run.new.self, c.run.new.writer)) c.run.result
     c.in_ok-bootstrap.bootstrap None c.plain.ensures.bootstrap c.plain.ensures.names c.plain.ensures.wanted c.run.ensures.restores)
+
+pub returns-clause-wanted : goal.returns-clause-wanted
+returns-clause-wanted g c =
+    let known = g.R.Read.remaining c.args.reader.now in
+    let alike = subst (λ (t : List ℕ). ReadsAs t known) (sym c.deref.ensures.value) c.in_ok-text.ensures.alike in
+    text_wanted known (map g.D.Drive.shows c.args.restore.now.drives.items) (map g.D.Drive.shows c.run.new.self.drives.items) c.deref.result.now
+    c.in_ok-bootstrap.bootstrap c.plain.result c.run.result alike c.in_ok-bootstrap.ensures.exact c.plain.ensures.bootstrap c.plain.ensures.names c.plain.ensures.wanted
+    c.run.ensures.wanted
 
 pub returns-clause-changed : goal.returns-clause-changed
 returns-clause-changed g c =

@@ -1,22 +1,27 @@
-use Rattle.std.proofs.Common.{◌≡◌, List, map, subst}
-use Rattle.std.specs.Prelude.{option_map}
+use Rattle.std.proofs.Common.{◌≡◌, List, map, Result, ap, subst, sym, ◌∙◌}
+use Rattle.std.specs.List.{AllZip}
+use Rattle.std.specs.Prelude.{IfOk, option_map}
 use Rattle.std.proofs.KnownBytes.{Keeps-refl}
 use Rattle.std.specs.Io.KnownBytes.{Appends}
 use Rattle.std.proofs.lemmas.Result.{err_from_is_err_and}
 use Rattle.br_model.specs.Bootstrap.{Group}
 use Rattle.br_model.specs.Manifest.{manifest}
 use Rattle.br_model.specs.Meaning.{pieces_of}
-use Rattle.br_model.specs.Restored.{planned_in}
+use Rattle.br_model.specs.Name.{FileKey}
+use Rattle.br_model.specs.Restored.{Restored, planned_in}
 use Rattle.br_model.specs.Volume.{Volume}
 use Rattle.br_join.specs.Outcome.{restored}
-use Rattle.br_engine.specs.DeliveredAgain.{CanGive, EndsLike}
-use Rattle.br_engine.specs.Restoring.{AllStand}
+use Rattle.br_join.specs.declared.item.Outcome.{Outcome}
+use Rattle.br_engine.specs.DeliveredAgain.{CanGive, EndsLike, IsFileLike}
+use Rattle.br_engine.specs.Restores.{IsStopPath}
+use Rattle.br_engine.specs.Restoring.{AllStand, Outcomes}
 use Rattle.br_engine.specs.declared.fault.ExtractFault.TheVariants.{Memory}
 use Rattle.br_engine.specs.Outputs.{StopsOnlyIf}
 use Rattle.br_engine.proofs.AgainLaws.{fail_later, nothing_written, only_grow, stand_midst, stay_on}
 use Rattle.br_engine.proofs.DeliverLaws.{delivers_refused, free_is_no_change, free_is_no_drive, free_is_no_line, gives_free}
 use Rattle.br_engine.proofs.EndLaws.{stops_weaker}
-use Rattle.br_engine.specs.WantedOutcomes.{left_by}
+use Rattle.br_engine.specs.Fault.{Refusal}
+use Rattle.br_engine.specs.WantedOutcomes.{delivered, left_by}
 use Rattle.br_engine.specs.declared.extracted.Extracted.{Extracted}
 use Rattle.br_engine.proofs.BackLaws.{gives_delivered}
 use Rattle.br_engine.proofs.RestoreLaws.{extracts_like}
@@ -115,6 +120,41 @@ returns-clause-restores g c =
     (subst (λ os. EndsLike (CanGive shows failures second c.groups-groups.result.now made.gathered (map restored os)) had has (map restored os) c.deliver_made-end.result) c.keep_delivered.ensures
     c.deliver_made-end.ensures.ends))
     (rw c.deref.ensures.value at c.in_ok-prepared.ensures.missing) (rw c.deref.ensures.value at c.in_ok-prepared.ensures.left)
+
+pub returns-clause-wanted : goal.returns-clause-wanted
+returns-clause-wanted g c =
+    let shows = g.D.Drive.shows in
+    let failures = g.D.Drive.failures in
+    let first = c.args.self.now.drives.items in
+    let second = c.restore_within.new.drives.items in
+    let third = c.deliver_made-end.new.drives.items in
+    let groups = c.args.order.asked.bootstrap.now in
+    let made = c.in_ok-made.made in
+    let os = map restored made.outcomes.items in
+    let kept = map restored (left_by c.in_ok-prepared.prepared.flags made.outcomes.items) in
+    let wanted : kept ≡ delivered c.args.order.wanted os = rw c.deref.ensures.value at c.in_ok-prepared.ensures.flags in
+    let told : map restored c.replace-outcomes.result.items ≡ delivered c.args.order.wanted os =
+    ap (λ (it : Outcomes). map restored it.items) c.replace-outcomes.ensures.value ∙ ap (λ (it : List (FileKey × Outcome)). map restored it) c.keep_delivered.ensures ∙ wanted in
+    λ volumes stands.
+    let midst = stand_midst (pieces_of groups) volumes (map shows first) (map shows second) (map shows third) stands
+    (only_grow shows failures first second c.in_ok-made.ensures.places) (only_grow shows failures second third c.deliver_made-end.ensures.places) in
+    subst (λ (expected : Result (List Restored) Refusal). IfOk expected (λ rs. map restored c.replace-outcomes.result.items ≡ delivered c.args.order.wanted rs))
+    (sym (c.in_ok-made.ensures.files volumes midst)) told
+
+pub returns-clause-outcomes : goal.returns-clause-outcomes
+returns-clause-outcomes g c =
+    let ends = c.deliver_made-end.ensures.ends in (
+      ends.rs,
+      subst (λ (os : Outcomes). AllZip IsFileLike ends.rs (map restored os.items)) (sym c.replace-outcomes.ensures.value) ends.like,
+      ends.ends.1,
+    )
+
+pub returns-clause-stopped_at : goal.returns-clause-stopped_at
+returns-clause-stopped_at g c =
+    let end = c.deliver_made-end.result in
+    let path = c.path_at_stop-stopped_at.result in
+    subst (λ (os : Outcomes). IsStopPath os.items end path) (sym c.replace-outcomes.ensures.value)
+    (subst (λ (os : List (FileKey × Outcome)). IsStopPath os end path) c.deref-3.ensures.value c.path_at_stop-stopped_at.ensures)
 
 pub returns-clause-changed : goal.returns-clause-changed
 returns-clause-changed g c =
