@@ -1,7 +1,8 @@
 /* Lets the moments that the program waits pass at once: preloaded, it replaces nanosleep. A byte is
  * appended to the file MOMENTS_LOG for each moment. After MOMENTS_BUSY of them the file
  * MOMENTS_FILE is removed, as if another program had ended its work. By the clock each moment takes
- * MOMENTS_SECONDS. A read of a part of a file gives at most MOMENTS_MOST bytes.
+ * MOMENTS_SECONDS, and each read of a part of a file MOMENTS_READ_SECONDS. Such a read gives at most
+ * MOMENTS_MOST bytes.
  *
  * Before read number MOMENTS_READ of a part of a file another program changes the catalogue
  * MOMENTS_CHANGED and its log. Each gets the bytes of the file whose name has .next at its end; that
@@ -14,7 +15,7 @@
 #include <time.h>
 #include <unistd.h>
 
-static long passed;
+static long passed, reads;
 
 static long number(const char *name)
 {
@@ -40,10 +41,12 @@ int nanosleep(const struct timespec *asked, struct timespec *left)
 
 int clock_gettime(clockid_t clock, struct timespec *time)
 {
-    long each = number("MOMENTS_SECONDS");
+    long each = number("MOMENTS_SECONDS"), reading = number("MOMENTS_READ_SECONDS");
     int failed = (int)syscall(SYS_clock_gettime, clock, time);
     if (failed == 0 && each > 0)
         time->tv_sec += each * passed;
+    if (failed == 0 && reading > 0)
+        time->tv_sec += reading * reads;
     return failed;
 }
 
@@ -76,7 +79,6 @@ static void remove_log(const char *catalogue)
 
 ssize_t pread(int file, void *bytes, size_t size, off_t place)
 {
-    static long reads;
     long most = number("MOMENTS_MOST");
     const char *catalogue = getenv("MOMENTS_CHANGED");
     reads += 1;

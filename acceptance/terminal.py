@@ -2,11 +2,10 @@
 """Plays an operator at a terminal who makes mistakes, and compares what the terminal shows beside standard output.
 
 Standard input and standard error are a pseudo terminal, without echo; standard output is a file. What a refusal means is compared
-with the table of docs/RESTORING.md. Needs sqlite3.
+with the table of docs/RESTORING.md. Needs sqlite3 and cc.
 
     acceptance/terminal.py                    over the program that is there
     acceptance/terminal.py --program FILE     over another program
-    acceptance/terminal.py --again            over one that may read files' bytes again, and tells so
 
 The status is 1 if something is not as expected.
 """
@@ -24,7 +23,6 @@ import sys
 import tempfile
 import termios
 import time
-from functools import partial
 from pathlib import Path
 
 # Nothing is left beside the script.
@@ -34,6 +32,7 @@ from cases import unpack
 from commands import small_blocks
 from common import CASES, ORDER_SQL, PROGRAM, SETS, Checks, escaped
 from explain import rows
+from preloaded import compiled
 
 VOLUMES = os.path.join(SETS, "order")
 BOOTSTRAP = os.path.join(CASES, "order-inc", "x.bsr")
@@ -42,8 +41,9 @@ PIPE_LEN = 4096
 CLEARED = "\r\x1b[K"
 PROMPT = "$ "
 GREETING = [
-    "Mark files with `mark NAME`, or all with `mark *`. `ls` lists, `cd NAME` goes into a folder.",
-    "`done` restores what is marked, and `quit` restores nothing. `help` lists all commands.",
+    "Mark files with `mark NAME`, or all with `mark *`. `ls` lists, `cd NAME` goes",
+    "into a folder. `done` restores what is marked, and `quit` restores nothing.",
+    "`help` lists all commands.",
 ]
 CHOSEN = [
     "chosen: * 1 F T 2026-11-21 23:15:33 peer-fd Peer 5 21 Vol-0001",
@@ -103,9 +103,10 @@ def read_until(terminal, text, wanted, ends):
     return text
 
 
-def play(program, words, lines, folder, prints=False):
-    """Runs the program at a terminal, to which it also prints if that is asked for, and types each line when it is asked for. Returns the
-    exit status, what the terminal showed as lines, and standard output if that is not the terminal."""
+def play(program, words, lines, folder, prints=False, **settings):
+    """Runs the program at a terminal, to which it also prints if that is asked for, and types each line when it is asked for, with more
+    settings in its environment. Returns the exit status, what the terminal showed as lines, and standard output if that is not the
+    terminal."""
     terminal, inner = pty.openpty()
     modes = termios.tcgetattr(inner)
     modes[0] &= ~termios.ICRNL
@@ -113,7 +114,8 @@ def play(program, words, lines, folder, prints=False):
     termios.tcsetattr(inner, termios.TCSANOW, modes)
     ends, shown = time.monotonic() + SECONDS, ""
     with open(os.path.join(folder, "printed"), "w+") as printed:
-        child = subprocess.Popen([program, *words], stdin=inner, stdout=inner if prints else printed, stderr=inner)
+        environment = {**os.environ, **settings}
+        child = subprocess.Popen([program, *words], stdin=inner, stdout=inner if prints else printed, stderr=inner, env=environment)
         os.close(inner)
         for wanted, line in lines:
             shown = read_until(terminal, shown, wanted, ends)
@@ -128,6 +130,12 @@ def play(program, words, lines, folder, prints=False):
 def length_in(pipe):
     """Returns the number of bytes in a pipe."""
     return struct.unpack("i", fcntl.ioctl(pipe, termios.FIONREAD, b"\0\0\0\0"))[0]
+
+
+def block_of(stream, data):
+    """Returns a block with one record of the first file."""
+    record = struct.pack(">iiI", 1, stream, len(data)) + data
+    return struct.pack(">III4sII", 0, 24 + len(record), 0, b"BB02", 1, 100) + record
 
 
 def play_slowly(program, words, at_terminal=True, lines="", room=0):
@@ -201,7 +209,7 @@ def restores(checks, folder):
         checks.check("and a file", len(text.read()), 24)
     status, shown, printed = play(checks.program, console_words(db, into), [], folder)
     reason = f"  {into} is a folder that is not empty. Next: Choose an empty folder; "
-    reason += "`extract --resume` goes on with a restore that was cut off."
+    reason += "`--resume` goes on with a restore that was cut off."
     checks.check("a second restore into the folder", (status, shown, printed), (1, [*told(81), reason], ""))
 
 
@@ -286,12 +294,7 @@ def spoilt(checks, folder):
     checks.check("once more with --quiet", (status, shown, printed), (1, outcome, manifest))
 
 
-def as_read_once(shown, again):
-    """Returns the output as a program shows it that reads nothing again, if this one may."""
-    return shown.replace("\rreading again,", "\r0.0 MiB of 0.0 MiB read,") if again else shown
-
-
-def tells(checks, folder, again):
+def tells(checks, folder):
     """The line that shows the progress of a restore."""
     into = [os.path.join(folder, f"told{number}") for number in range(3)]
     for place in into:
@@ -302,9 +305,8 @@ def tells(checks, folder, again):
     extract = ["extract", "--bsr", BOOTSTRAP, "--volumes", VOLUMES, "--into"]
     status, shown, printed = play_slowly(checks.program, [*extract, into[0]])
     checks.check("a restore that takes its time", (status, printed), (0, manifest))
-    begun = f"\r0.0 MiB of 0.0 MiB read, 0 of {files} files put\x1b[K"
+    begun = f"\r0.0 MiB of 0.0 MiB written, 0 of {files} files put\x1b[K"
     ended = f"{CLEARED}{count(files, files)}\n"
-    shown = as_read_once(shown, again)
     checks.check("is told", (shown[:len(begun)], shown[-len(ended):]), (begun, ended))
     status, shown, printed = play_slowly(checks.program, [*extract, into[1], "--quiet"])
     checks.check("and not with --quiet", (status, shown, printed), (0, "", manifest))
@@ -312,7 +314,7 @@ def tells(checks, folder, again):
     checks.check("and not without a terminal", (status, shown, printed), (0, "", manifest))
 
 
-def tells_a_session(checks, folder, again):
+def tells_a_session(checks, folder):
     """The same line of a console session, which knows the number of bytes to read after its
     bootstrap is printed."""
     db, into = os.path.join(folder, "told.db"), os.path.join(folder, "told3")
@@ -329,8 +331,37 @@ def tells_a_session(checks, folder, again):
     room = len(whole) - len(manifest)
     status, shown, printed = play_slowly(checks.program, session, lines=lines, room=room)
     checks.check("a session that takes its time", (status, printed), (0, whole))
-    told = f"\r0.0 MiB of 0.0 MiB read, 0 of {files} files put\x1b[K{CLEARED}{count(files, files)}\n"
-    checks.check("is told", as_read_once(shown, again)[-len(told):], told)
+    told = f"\r0.0 MiB of 0.0 MiB written, 0 of {files} files put\x1b[K{CLEARED}{count(files, files)}\n"
+    checks.check("is told", shown[-len(told):], told)
+
+
+def tells_bytes(checks, folder):
+    """The bytes of one large file, which is read again while it goes into a stream that takes its time."""
+    volumes, bsr = os.path.join(folder, "large"), os.path.join(folder, "large.bsr")
+    os.mkdir(volumes)
+    with open(os.path.join(volumes, "V"), "wb") as volume:
+        volume.write(block_of(1, b"1 3 /a\0A A IGk B A A A BAAAA A A A A A A\0\0"))
+        volume.write(b"".join(block_of(2, b"a" * 2**16) for _ in range(256)))
+    with open(bsr, "w") as text:
+        text.write("Volume=V\n")
+    status, shown, printed = play_slowly(checks.program, ["extract", "--bsr", bsr, "--volumes", volumes, "--tar", "-", "--memory", "0"])
+    checks.check("a large file", (status, printed.count("a") >= 2**24), (0, True))
+    told = [float(size) for size in re.findall(r"\r([0-9.]+) MiB of 16.0 MiB written, 0 of 1 files put", shown)]
+    checks.check("is told by its bytes", any(0 < size < 16 for size in told), True)
+
+
+def tells_a_check(checks, folder):
+    """How far a check is, by a clock in which each read takes a second."""
+    words = ["check", "--bsr", BOOTSTRAP, "--volumes", VOLUMES, "--checksums"]
+    found = subprocess.run([checks.program, *words], capture_output=True, text=True)
+    settings = {"LD_PRELOAD": compiled(folder, "passing_moments"), "MOMENTS_READ_SECONDS": "1"}
+    status, shown, printed = play(checks.program, words, [], folder, **settings)
+    checks.check("a check at a terminal", (status, printed), (found.returncode, found.stdout))
+    # The line is taken away before the findings of the first reading, of which there are none, and at the end.
+    pattern = r"((\r0\.0 MiB (of 0\.0 MiB read|read, and 0\.0 MiB again)(, 0:\d\d left)?\x1b\[K)+\r\x1b\[K){2}"
+    checks.check("is told how far it is", bool(re.fullmatch(pattern, "\r".join(shown))), True)
+    shown, (first, *others) = play(checks.program, words, [], folder, prints=True, **settings)[1], printed.splitlines()
+    checks.check("and takes the line away", shown[-1 - len(others):], [f"\x1b[K{first}", *others])
 
 
 def leaves_unsaid(checks, folder):
@@ -443,13 +474,11 @@ def waits(checks, folder):
 def main():
     parser = argparse.ArgumentParser(description="Plays an operator at a terminal who makes mistakes.")
     parser.add_argument("--program", default=PROGRAM, help="the program (default: %(default)s)")
-    parser.add_argument("--again", action="store_true", help="the program may read the files' bytes again")
     options = parser.parse_args()
     checks = Checks(os.path.abspath(options.program))
     folder = tempfile.mkdtemp(prefix="brestore-terminal-")
-    telling = (partial(tells, again=options.again), partial(tells_a_session, again=options.again))
     try:
-        for plays in (restores, asks_again, extracts, *telling, leaves_unsaid, looks, streams, lists, says_rows, waits):
+        for plays in (restores, asks_again, extracts, tells, tells_a_session, tells_bytes, tells_a_check, leaves_unsaid, looks, streams, lists, says_rows, waits):
             plays(checks, folder)
     finally:
         shutil.rmtree(folder)

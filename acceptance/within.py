@@ -27,8 +27,6 @@ from common import PROGRAM
 SCRIPTS = ("catalogue.py", "commands.py", "hostile.py", "leaving.py", "serving.py", "stops.py", "tarred.py", "terminal.py")
 # These take the program without `--program`.
 PLAIN = ("tarred.py",)
-# This one is told that the program may read again, which a terminal shows.
-AGAIN = ("terminal.py",)
 WRAPPER = """#!/bin/sh
 for word; do
     case "$word" in --memory | --memory=*) exec {program} "$@" ;; esac
@@ -61,7 +59,6 @@ def write_wrapper(folder, program, size):
 def has_passed(script, program):
     """Runs a script over a program, and returns whether everything was as expected."""
     words = [program] if script in PLAIN else ["--program", program]
-    words += ["--again"] if script in AGAIN else []
     ran = subprocess.run([sys.executable, os.path.join(HERE, script), *words], stdin=subprocess.DEVNULL)
     print(f"{script}: {'as expected' if ran.returncode == 0 else f'status {ran.returncode}'}", flush=True)
     return ran.returncode == 0

@@ -5,7 +5,7 @@ ghost use Rattle.br_cli_progress.specs.Telling.{HasNoLog};
 use crate::expecting::len_of_volumes;
 use crate::log::Log;
 use crate::progress_counts::ProgressCounts;
-use crate::progress_line::{Standing, seconds_left};
+use crate::progress_line::{Putting, Standing, seconds_left};
 use br_bsr::Bootstrap;
 use br_cli_common::{BAD_STREAM, Target};
 use std::alloc::Global;
@@ -35,7 +35,15 @@ pub struct Gauge<'r> {
     to_read: AtomicU64,
     read: AtomicU64,
     files: AtomicU64,
+    /// The number of bytes of the files of the manifest.
+    bytes: AtomicU64,
     put: AtomicU64,
+    /// The number of bytes of the files that the sink took.
+    written: AtomicU64,
+    /// The number of bytes of the files that are being put part by part; 0 if there are none.
+    part: AtomicU64,
+    /// The number of bytes of the volumes that had been passed when these were begun.
+    part_at: AtomicU64,
     /// The number of files that the folder skipped.
     skipped: AtomicU64,
     /// The number of files of the manifest that are left out as older copies.
@@ -80,7 +88,11 @@ impl<'r> Gauge<'r> {
             to_read: AtomicU64::new(0),
             read: AtomicU64::new(0),
             files: AtomicU64::new(0),
+            bytes: AtomicU64::new(0),
             put: AtomicU64::new(0),
+            written: AtomicU64::new(0),
+            part: AtomicU64::new(0),
+            part_at: AtomicU64::new(0),
             skipped: AtomicU64::new(0),
             older: AtomicU64::new(0),
             lost: AtomicU64::new(0),
@@ -128,9 +140,28 @@ impl<'r> Gauge<'r> {
         self.tell();
     }
 
-    /// Notes that this number of further files is to be put.
-    pub(crate) fn note_files(&self, count: u64) {
-        self.files.fetch_add(count, Ordering::SeqCst);
+    /// Notes that a further file with this number of bytes is to be put.
+    pub(crate) fn note_file(&self, bytes: u64) {
+        self.files.fetch_add(1, Ordering::SeqCst);
+        self.bytes.fetch_add(bytes, Ordering::SeqCst);
+    }
+
+    /// Notes that files with this number of bytes in all are put part by part from now on.
+    pub(crate) fn begin_parts(&self, bytes: u64) {
+        let read = self.read.load(Ordering::SeqCst);
+        self.part_at.store(read, Ordering::SeqCst);
+        self.part.store(bytes, Ordering::SeqCst);
+        self.begin_putting();
+    }
+
+    /// Notes that the files that were put part by part have ended.
+    pub(crate) fn end_parts(&self) {
+        self.part.store(0, Ordering::SeqCst);
+    }
+
+    /// Notes that files with this number of bytes were written.
+    pub(crate) fn note_written(&self, bytes: u64) {
+        self.written.fetch_add(bytes, Ordering::SeqCst);
     }
 
     /// Notes that files are put from now on.
@@ -231,24 +262,43 @@ impl<'r> Gauge<'r> {
         Some(now.max(1))
     }
 
-    /// Returns the progress of the restore.
+    /// Returns the number of bytes of files that were written. Of files that are put part by part
+    /// these are as many as were read since they were begun, at most all.
+    fn written(&self) -> u64 {
+        let read = self.read.load(Ordering::SeqCst);
+        let part_at = self.part_at.load(Ordering::SeqCst);
+        let part = self.part.load(Ordering::SeqCst);
+        let written = self.written.load(Ordering::SeqCst);
+        written.saturating_add(part.min(read.saturating_sub(part_at)))
+    }
+
+    /// Returns how far the files are put, once that began.
+    fn putting(&self) -> Option<Putting> {
+        if !self.is_putting.load(Ordering::SeqCst) {
+            return None;
+        }
+        Some(Putting {
+            written: self.written(),
+            bytes: self.bytes.load(Ordering::SeqCst),
+            put: self.put.load(Ordering::SeqCst),
+            files: self.files.load(Ordering::SeqCst),
+        })
+    }
+
+    /// Returns the progress of the restore, this number of milliseconds after its step began.
     fn standing(&self, elapsed: u64) -> Standing {
         let read = self.read.load(Ordering::SeqCst);
         let to_read = self.to_read.load(Ordering::SeqCst);
-        let put = self.put.load(Ordering::SeqCst);
-        let (files, left) = if self.is_putting.load(Ordering::SeqCst) {
-            let files = self.files.load(Ordering::SeqCst);
-            let taken = put.saturating_add(self.skipped.load(Ordering::SeqCst));
-            (files, seconds_left(elapsed, taken, files))
-        } else {
-            (0, seconds_left(elapsed, read, to_read))
+        let put = self.putting();
+        let (done, all) = match &put {
+            Some(put) => put.work(put.put.saturating_add(self.skipped.load(Ordering::SeqCst))),
+            None => (read, to_read),
         };
         Standing {
             read,
             to_read,
             put,
-            files,
-            left,
+            left: seconds_left(elapsed, done, all),
         }
     }
 

@@ -3,7 +3,7 @@
 use crate::gauge::Gauge;
 use crate::passed_faults::Faults;
 use crate::progress_counts::{
-    count_skipped, is_skipped, push_count, push_path, taken_lines, taken_word,
+    count_bytes, count_skipped, is_skipped, push_count, push_path, taken_lines, taken_word,
 };
 use br_cli_common::{push_with_words, push_words};
 use br_join::{Item, Outcome};
@@ -66,6 +66,7 @@ impl<'r> Gauge<'r> {
         } else {
             0
         };
+        self.note_written(count_bytes(outcomes, count));
         self.note_taken(count, skipped);
     }
 
@@ -75,6 +76,7 @@ impl<'r> Gauge<'r> {
             let word = taken_word(self.is_folder, item.kind);
             self.log_lines(item_line(self.alloc(), word, item));
         }
+        self.note_written(item.bytes.len());
         self.note_taken(1, u64::from(self.is_folder && is_skipped(item.kind)));
     }
 

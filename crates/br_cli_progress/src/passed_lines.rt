@@ -37,11 +37,46 @@ impl LineStart {
     }
 }
 
+/// The numbers that the last two words of the part of a line that has passed begin with; 0 for words
+/// that begin with something else.
+#[derive(Clone, Copy)]
+struct LastWords {
+    before: u64,
+    last: u64,
+    /// Only digits have passed in the last word.
+    is_number: bool,
+}
+
+impl LastWords {
+    /// Those of an empty line.
+    const NONE: LastWords = LastWords {
+        before: 0,
+        last: 0,
+        is_number: true,
+    };
+
+    /// Adds a byte.
+    fn push(&mut self, byte: u8) {
+        if byte == b' ' {
+            *self = LastWords {
+                before: self.last,
+                ..LastWords::NONE
+            };
+        } else if self.is_number && byte.is_ascii_digit() {
+            let digit = u64::from(byte.saturating_sub(b'0'));
+            self.last = self.last.saturating_mul(10).saturating_add(digit);
+        } else {
+            self.is_number = false;
+        }
+    }
+}
+
 /// What is noted of the lines that pass a writer: replies of the console, a bootstrap and the
 /// manifest.
 #[derive(Drop)]
 pub(crate) struct PassedLines {
     start: LineStart,
+    words: LastWords,
     /// The outcomes that are no files.
     pub(crate) faults: Faults,
     /// The keys of the outcomes, unless memory ran out.
@@ -69,6 +104,7 @@ impl PassedLines {
                 bytes: [0; START_LEN],
                 len: 0,
             },
+            words: LastWords::NONE,
             faults: Faults::new(alloc),
             keys: Some(Vec::new(alloc)),
             refused: None,
@@ -80,7 +116,8 @@ impl PassedLines {
     fn note_outcome(&mut self, gauge: &Gauge<'_>, outcome: &OutcomeLine) {
         add_key(&mut self.keys, outcome.key);
         match outcome.why {
-            None => gauge.note_files(1),
+            // The line of a file ends with the number of its bytes and their digest.
+            None => gauge.note_file(self.words.before),
             Some(why) => {
                 gauge.note_lost();
                 gauge.log_fault(self.start.text());
@@ -99,6 +136,7 @@ impl PassedLines {
             self.refused = Some(number);
         }
         self.start.len = 0;
+        self.words = LastWords::NONE;
     }
 
     /// Notes a text that passes.
@@ -108,6 +146,7 @@ impl PassedLines {
                 self.end_line(gauge);
             } else {
                 self.start.push(*byte);
+                self.words.push(*byte);
             }
         }
     }

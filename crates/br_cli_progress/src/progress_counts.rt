@@ -142,3 +142,19 @@ pub(crate) fn count_skipped(outcomes: &[(FileKey, Outcome)], count: u64) -> u64 
     }
     skipped
 }
+
+/// Returns the number of bytes of the first `count` files among the outcomes.
+pub(crate) fn count_bytes(outcomes: &[(FileKey, Outcome)], count: u64) -> u64 {
+    let mut bytes: u64 = 0;
+    let mut left = count;
+    for (_, outcome) in outcomes {
+        if let Outcome::File(item) = outcome {
+            if left == 0 {
+                return bytes;
+            }
+            bytes = bytes.saturating_add(item.bytes.len());
+            left -= 1;
+        }
+    }
+    bytes
+}

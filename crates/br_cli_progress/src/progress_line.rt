@@ -16,12 +16,23 @@ pub struct Standing {
     pub read: u64,
     /// The number of bytes of the volumes that are read; 0 if it is not known.
     pub to_read: u64,
-    /// The number of files that were put.
-    pub put: u64,
-    /// The number of files to put in all; 0 until it is known.
-    pub files: u64,
+    /// What was put; nothing until files are put.
+    pub put: Option<Putting>,
     /// The seconds that are left for the current step, if they are known.
     pub left: Option<u64>,
+}
+
+/// How far the files of a restore are put.
+#[derive(Clone, Copy)]
+pub struct Putting {
+    /// The number of bytes of files that were written.
+    pub written: u64,
+    /// The number of bytes of all files.
+    pub bytes: u64,
+    /// The number of files that were put.
+    pub put: u64,
+    /// The number of all files.
+    pub files: u64,
 }
 
 /// A number of bytes in MiB or GiB, with one decimal.
@@ -81,6 +92,21 @@ impl fmt::Display for Time {
     }
 }
 
+impl fmt::Display for Putting {
+    fn fmt<W: fmt::Write>(&self, f: &mut fmt::Formatter<W>) -> fmt::Result {
+        let written = Size {
+            bytes: self.written,
+        };
+        let bytes = Size { bytes: self.bytes };
+        let put = Grouped { number: self.put };
+        let files = Grouped { number: self.files };
+        write!(
+            f,
+            "{written} of {bytes} written, {put} of {files} files put"
+        )
+    }
+}
+
 impl Standing {
     /// Writes the number of bytes that were read.
     fn write_read<W: fmt::Write>(&self, f: &mut fmt::Formatter<W>) -> fmt::Result {
@@ -88,34 +114,48 @@ impl Standing {
         if self.to_read == 0 {
             return write!(f, "{read} read");
         }
-        if self.read > self.to_read {
-            return write!(f, "reading again");
-        }
         let all = Size {
             bytes: self.to_read,
         };
-        write!(f, "{read} of {all} read")
-    }
-
-    /// Writes the number of files that were put, if the number of all files is known.
-    fn write_put<W: fmt::Write>(&self, f: &mut fmt::Formatter<W>) -> fmt::Result {
-        if self.files == 0 {
-            return Ok(());
+        if self.read > self.to_read {
+            let again = Size {
+                bytes: self.read - self.to_read,
+            };
+            return write!(f, "{all} read, and {again} again");
         }
-        let put = Grouped { number: self.put };
-        let files = Grouped { number: self.files };
-        write!(f, ", {put} of {files} files put")
+        write!(f, "{read} of {all} read")
     }
 }
 
 impl fmt::Display for Standing {
     fn fmt<W: fmt::Write>(&self, f: &mut fmt::Formatter<W>) -> fmt::Result {
-        self.write_read(f)?;
-        self.write_put(f)?;
+        match self.put {
+            Some(put) => write!(f, "{put}")?,
+            None => self.write_read(f)?,
+        }
         match self.left {
             Some(seconds) => write!(f, ", {} left", Time { seconds }),
             None => Ok(()),
         }
+    }
+}
+
+/// What the calls of the system for a file take, as the number of bytes that take as long.
+const FILE_COST: u64 = 16_384;
+
+/// Returns how many bytes take as long as this number of files with these bytes in all.
+fn work_of(files: u64, bytes: u64) -> u64 {
+    bytes.saturating_add(files.saturating_mul(FILE_COST))
+}
+
+impl Putting {
+    /// Returns what was done and what is to be done in all, as numbers of bytes that take as long, if
+    /// this number of files are put or skipped.
+    pub fn work(&self, taken: u64) -> (u64, u64) {
+        (
+            work_of(taken, self.written),
+            work_of(self.files, self.bytes),
+        )
     }
 }
 

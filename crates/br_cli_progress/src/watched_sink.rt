@@ -9,23 +9,18 @@ use br_join::{FileBytes, Item, Outcome};
 use br_sink::{
     Parts, PartsFault, Sink, SinkFault, SinkStop, StopCause, TwoParts, TwoPut, file_at, totals,
 };
-use br_types::{FileKey, Path};
+use br_types::FileKey;
 use std::alloc::Global;
 use std::thread::Threads;
 
 /// The number of outcomes after which the files that were put are reported to the gauge.
 const RUN_LEN: usize = 64;
 
-/// The greatest number of paths that are kept of files at which the sink failed.
-const FAILED_LEN: usize = 8;
-
 /// A sink that puts files as another one does, and reports them to a gauge.
 #[derive(Drop)]
 pub struct WatchedSink<'g, 'r, S> {
     pub inner: S,
     gauge: &'g Gauge<'r>,
-    /// The paths of the first files at which the sink failed.
-    failed: Vec<Path>,
 }
 
 impl<'g, 'r, S> WatchedSink<'g, 'r, S> {
@@ -33,11 +28,7 @@ impl<'g, 'r, S> WatchedSink<'g, 'r, S> {
     pub fn new(inner: S, gauge: &'g Gauge<'r>) -> WatchedSink<'g, 'r, S>
         ensures { result.inner ≡ inner }
     {
-        WatchedSink {
-            inner,
-            gauge,
-            failed: Vec::new(gauge.alloc()),
-        }
+        WatchedSink { inner, gauge }
     }
 
     /// Returns the sink inside.
@@ -46,22 +37,6 @@ impl<'g, 'r, S> WatchedSink<'g, 'r, S> {
     {
         let WatchedSink { inner, .. } = self;
         inner
-    }
-
-    /// Returns the paths of the first files at which the sink failed, at most eight. Nothing is
-    /// kept if nobody reads what the gauge reports.
-    pub fn failed(&self) -> &[Path] {
-        &self.failed
-    }
-}
-
-/// Notes that the sink failed at a file. If memory runs out for the path, it is not kept.
-fn note_failed(gauge: &Gauge<'_>, failed: &mut Vec<Path>, item: &Item) {
-    gauge.log_failed(item);
-    if failed.len() < FAILED_LEN {
-        if let Ok(path) = item.path.copy(gauge.alloc()) {
-            let _kept = failed.push(path);
-        }
     }
 }
 
@@ -108,7 +83,7 @@ impl<'g, 'r, S: Sink> Sink for WatchedSink<'g, 'r, S> {
         let put = self.inner.put(item);
         match &put {
             Ok(()) => self.gauge.note_file_taken(item),
-            Err(SinkFault::Fault) => note_failed(self.gauge, &mut self.failed, item),
+            Err(SinkFault::Fault) => self.gauge.log_failed(item),
             Err(SinkFault::Memory) => {}
         }
         put
@@ -128,7 +103,7 @@ impl<'g, 'r, S: Sink> Sink for WatchedSink<'g, 'r, S> {
                 stop.cause(),
                 file_at(outcomes, stop.done()),
             ) {
-                note_failed(self.gauge, &mut self.failed, item);
+                self.gauge.log_failed(item);
             }
         }
         put
@@ -140,11 +115,12 @@ impl<'g, 'r, S: Sink> Sink for WatchedSink<'g, 'r, S> {
         item: &Item,
         parts: &mut P,
     ) -> Result<FileBytes, PartsFault> {
-        self.gauge.begin_putting();
+        self.gauge.begin_parts(item.bytes.len());
         let put = self.inner.put_parts(alloc, item, parts);
+        self.gauge.end_parts();
         match &put {
             Ok(_) => self.gauge.note_file_taken(item),
-            Err(PartsFault::Fault) => note_failed(self.gauge, &mut self.failed, item),
+            Err(PartsFault::Fault) => self.gauge.log_failed(item),
             Err(PartsFault::Memory | PartsFault::NoDriveLeft | PartsFault::Changed) => {}
         }
         put
@@ -157,8 +133,10 @@ impl<'g, 'r, S: Sink> Sink for WatchedSink<'g, 'r, S> {
         other: &Item,
         parts: &mut P,
     ) -> Option<TwoPut> {
-        self.gauge.begin_putting();
+        let bytes = one.bytes.len().saturating_add(other.bytes.len());
+        self.gauge.begin_parts(bytes);
         let put = self.inner.put_two(alloc, one, other, parts);
+        self.gauge.end_parts();
         match &put {
             Some(TwoPut::Both { .. }) => {
                 self.gauge.note_file_taken(one);
@@ -167,7 +145,7 @@ impl<'g, 'r, S: Sink> Sink for WatchedSink<'g, 'r, S> {
             Some(TwoPut::One { why, .. }) => {
                 self.gauge.note_file_taken(one);
                 if *why == PartsFault::Fault {
-                    note_failed(self.gauge, &mut self.failed, other);
+                    self.gauge.log_failed(other);
                 }
             }
             Some(
@@ -175,7 +153,7 @@ impl<'g, 'r, S: Sink> Sink for WatchedSink<'g, 'r, S> {
                     why: PartsFault::Fault,
                 },
             ) => {
-                note_failed(self.gauge, &mut self.failed, one);
+                self.gauge.log_failed(one);
             }
             Some(TwoPut::Neither { .. }) | None => {}
         }

@@ -6,7 +6,9 @@ use br_cli_common::{
     Target, push_with_words, reason_of_file, reason_of_folder, reason_of_new_file, reason_of_read,
     refused_number,
 };
-use br_cli_progress::{Faults, Gauge, Log, Standing, WatchedWriter, push_key, seconds_left};
+use br_cli_progress::{
+    Faults, Gauge, Log, Putting, Standing, WatchedWriter, push_key, seconds_left,
+};
 use br_test_support::Case;
 use br_types::push_number;
 use std::alloc::{AllocError, Global};
@@ -102,6 +104,49 @@ fn number_of(case: &mut Case, field: &str) -> Option<u64> {
     Some(case.u64_of(field))
 }
 
+/// Returns how far files are put.
+fn putting_of(case: &mut Case, written: &str, bytes: &str, put: &str, files: &str) -> Putting {
+    Putting {
+        written: case.u64_of(written),
+        bytes: case.u64_of(bytes),
+        put: case.u64_of(put),
+        files: case.u64_of(files),
+    }
+}
+
+/// Appends what a step says of the progress of a restore.
+fn push_progress(text: &mut Vec<u8>, case: &mut Case, step: &[&str]) -> io::Result<()> {
+    match step {
+        ["standing", read, to_read, left] => {
+            let standing = Standing {
+                read: case.u64_of(read),
+                to_read: case.u64_of(to_read),
+                put: None,
+                left: number_of(case, left),
+            };
+            write!(text, "{standing}")
+        }
+        ["putting", written, bytes, put, files, left] => {
+            let standing = Standing {
+                read: 5,
+                to_read: 4,
+                put: Some(putting_of(case, written, bytes, put, files)),
+                left: number_of(case, left),
+            };
+            write!(text, "{standing}")
+        }
+        ["work", written, bytes, put, files] => {
+            let putting = putting_of(case, written, bytes, put, files);
+            write!(text, "{:?}", putting.work(putting.put))
+        }
+        ["left", elapsed, done, all] => {
+            let left = seconds_left(case.u64_of(elapsed), case.u64_of(done), case.u64_of(all));
+            write!(text, "{left:?}")
+        }
+        _ => Err(io::ErrorKind::InvalidInput.into()),
+    }
+}
+
 /// Runs a step. If its output is a text, prints the text.
 pub(crate) fn run(case: &mut Case, rt: &HostRuntime, step: &[&str]) {
     let mut text = Vec::new(case.alloc());
@@ -110,19 +155,8 @@ pub(crate) fn run(case: &mut Case, rt: &HostRuntime, step: &[&str]) {
             let bytes = case.bytes_of(path);
             push_reason(&mut text, rt, way, path, &bytes).is_ok()
         }
-        ["standing", read, to_read, put, files, left] => {
-            let standing = Standing {
-                read: case.u64_of(read),
-                to_read: case.u64_of(to_read),
-                put: case.u64_of(put),
-                files: case.u64_of(files),
-                left: number_of(case, left),
-            };
-            write!(text, "{standing}").is_ok()
-        }
-        ["left", elapsed, done, all] => {
-            let left = seconds_left(case.u64_of(elapsed), case.u64_of(done), case.u64_of(all));
-            write!(text, "{left:?}").is_ok()
+        ["standing" | "putting" | "work" | "left", ..] => {
+            push_progress(&mut text, case, step).is_ok()
         }
         ["pass", log, len, lines] => {
             let len = case.u64_of(len) as usize;
