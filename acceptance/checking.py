@@ -10,11 +10,16 @@ paths that conflict, and those that come more than once. The memory is worked ou
 """
 
 import argparse
+import fcntl
 import os
+import re
 import shutil
+import struct
 import subprocess
 import sys
 import tempfile
+import termios
+import time
 from pathlib import Path
 
 # Nothing is left beside the script.
@@ -264,6 +269,31 @@ def checks_sums(checks, folder):
     checks.check("a volume that ends within a later block", (status, told), (1, [f"volume 12 {NAME} 1656", f"checksum {NAME} {address}"]))
 
 
+def checks_at_once(checks, folder):
+    """Blocks that all differ, while nobody reads the lines: the program waits at a full pipe before it reads most of them for checksums,
+    after it read all of them once."""
+    made, size, count, room = Path(tempfile.mkdtemp(dir=folder)), 2**18, 1024, 4096
+    data = struct.pack(">iiI", 1, 2, size - 36) + bytes(size - 36)
+    with open(made / "V", "wb") as volume:
+        for number in range(count):
+            volume.write(struct.pack(">III4sII", 1, size, number, b"BB02", 1, 100) + data)
+    (made / "x.bsr").write_text("Volume=V\n")
+    words = [checks.program, "check", "--bsr", made / "x.bsr", "--volumes", made, "--checksums"]
+    lines, into = os.pipe()
+    fcntl.fcntl(into, fcntl.F_SETPIPE_SZ, room)
+    ends = time.monotonic() + 60
+    with subprocess.Popen(words, stdout=into) as program:
+        os.close(into)
+        while struct.unpack("i", fcntl.ioctl(lines, termios.FIONREAD, bytes(4)))[0] < room - 64 and time.monotonic() < ends:
+            time.sleep(0.01)
+        read = int(re.search(r"^rchar: (\d+)$", Path(f"/proc/{program.pid}/io").read_text(), re.MULTILINE)[1])
+        program.kill()
+    told = os.read(lines, room)
+    os.close(lines)
+    first = told[told.index(b"checksum V ") :].split(b"\n")[:2]
+    checks.check("lines that nobody reads", (first, read < size * count * 3 // 2), ([b"checksum V 0", b"checksum V %d" % size], True))
+
+
 def checks_long(checks, folder):
     """Names of 255 and 256 bytes, and paths up to 4,096 bytes: the check says which of them a folder takes, and a restore by them agrees."""
     deep = b"/".join([b"", *[b"d" * 200] * 20, b""])
@@ -384,6 +414,7 @@ def main():
         checks_spoilt(checks, Path(folder))
         checks_flipped(checks, Path(folder))
         checks_sums(checks, Path(folder))
+        checks_at_once(checks, Path(folder))
         checks_long(checks, Path(folder))
         checks_conflicts(checks, Path(folder))
         checks_counts(checks, Path(folder))

@@ -11,4 +11,5 @@ pub mod BlockLaws
 pub mod LaterLaws
 pub mod StepLaws
 pub mod PieceLaws
+pub mod TellLaws
 mod FindingsExamples

@@ -55,6 +55,10 @@ ChecksOver s groups counts budget checked =
     (searched : Moment) × (results : List Searched) × (labels : List (List ℕ)) × InTurn IsSearched s.earlier searched (pieces_of groups) results
     × InTurn TellsVolume searched s.later (pieces_of groups) labels × IsChecked groups counts budget results (flat_map (λ line. line) labels) checked
 
--- the findings, the memory, and then the number of files and of their bytes
+-- the memory, and then the number of files and of their bytes
+abbrev pub end_text : Checked → List ℕ
+end_text c = line (codes "memory " ++ decimal c.memory) ++ line (codes "total " ++ decimal c.files ++ 32 ∷ decimal c.bytes)
+
+-- the findings, and these
 abbrev pub checked_text : Checked → List ℕ
-checked_text c = c.findings.items ++ line (codes "memory " ++ decimal c.memory) ++ line (codes "total " ++ decimal c.files ++ 32 ∷ decimal c.bytes)
+checked_text c = c.findings.items ++ end_text c

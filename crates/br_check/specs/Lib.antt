@@ -10,3 +10,4 @@ pub mod ChecksumBlocks
 pub mod ChecksumWalk
 pub mod AskedBlocks
 pub mod ChecksumPieces
+pub mod Told

@@ -1,7 +1,7 @@
 //! The whole check.
 ghost use Rattle.std.specs.Prelude.{◌≡◌, ◌++◌, ◌∷◌, ◌≤◌, ◌*◌, ◌^◌, codes, decimal, flat_map, IfOk, map, OnOk};
 ghost use Rattle.br_check.specs.Shown.{shown_between};
-ghost use Rattle.br_check.specs.Check.{ChecksOver, IsChecked, checked_text, folder_lines, keys_of, lines_of, outlines_in};
+ghost use Rattle.br_check.specs.Check.{ChecksOver, IsChecked, end_text, folder_lines, keys_of, lines_of, outlines_in};
 ghost use Rattle.br_check.specs.Findings.{bytes_in, bytes_of, files_at, files_in, memory_for};
 ghost use Rattle.br_check.specs.Search.{all_found, found_in};
 ghost use Rattle.br_records.specs.ShownRecords.{outlined};
@@ -45,11 +45,10 @@ impl Checked {
         self.findings.is_empty()
     }
 
-    /// Appends the findings, and then the lines `memory BYTES` and `total FILES BYTES`.
-    pub fn push_text(&self, text: &mut Vec<u8>) -> Result<(), AllocError>
-        ensures { OnOk result (text.new.items ≡ text.old.items ++ checked_text self.now) }
+    /// Appends what follows the findings: the lines `memory BYTES` and `total FILES BYTES`.
+    pub fn push_end(&self, text: &mut Vec<u8>) -> Result<(), AllocError>
+        ensures { OnOk result (text.new.items ≡ text.old.items ++ end_text self.now) }
     {
-        text.extend_from_slice(&self.findings)?;
         push_memory(text, self.memory)?;
         push_total(text, self.files, self.bytes)
     }

@@ -1,1 +1,2 @@
 pub mod VolumesLaws
+mod TellLaws

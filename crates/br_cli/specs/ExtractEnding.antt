@@ -1,10 +1,8 @@
 -- The end of a run that extracts files.
-use Rattle.std.specs.Prelude.{ℕ, Bool, true, false, ◌&&◌, List, [], ◌++◌, map, Option, Some, None, Result, Ok, Err, if◌then◌else◌}
+use Rattle.std.specs.Prelude.{ℕ, Bool, true, false, List, ◌++◌, Option, Some, None, Result, Ok, Err, if◌then◌else◌}
 use Rattle.br_check.specs.Findings.{empty_line}
 use Rattle.std.specs.Borrow.{Bor}
 use Rattle.br_model.specs.Bootstrap.{Group}
-use Rattle.br_model.specs.File.{Item}
-use Rattle.br_model.specs.Text.{is_empty}
 use Rattle.br_engine.specs.Fault.{fault_text}
 use Rattle.br_engine.specs.declared.restore_end.RestoreEnd.{RestoreEnd}
 use Rattle.br_engine.specs.declared.restore_end.RestoreEnd.TheVariants.{AllFiles, SomeFaults, Stopped}
@@ -12,7 +10,7 @@ use Rattle.br_engine.specs.declared.fault.ExtractFault.{ExtractFault}
 use Rattle.br_engine.specs.declared.fault.ExtractFault.TheVariants.{Io, NoEnd}
 use Rattle.br_engine.specs.Restores.{done_lines}
 use Rattle.br_engine.specs.declared.extracted.Extracted.{Extracted}
-use Rattle.br_sink.specs.KeepGoing.{InLeaving}
+use Rattle.br_cli_target.specs.WholeRestore.{is_whole}
 use Rattle.br_cli_target.specs.declared.target_tar.PutExtent.{PutExtent}
 use Rattle.br_cli_target.specs.declared.target_tar.PutExtent.TheVariants.{All, Part}
 use Rattle.br_cli_target.specs.declared.target_tar.TarEnd.{TarEnd}
@@ -32,21 +30,11 @@ end_status AllFiles = 0
 end_status SomeFaults = 1
 end_status (Stopped stop) = 1
 
--- nothing is reported as missing, and no file is left out, neither for its path nor since the sink
--- failed at it
-abbrev pub is_whole : Extracted → List (List ℕ) → Bool
-is_whole done failed = is_empty done.missing.items && is_empty done.left.items && is_empty failed
-
 -- 1 also if something is reported as missing or left out, or if all is to be reported and nothing is
 -- asked for
 abbrev pub done_status : Bool → Extracted → List (List ℕ) → ℕ
 done_status true done failed = 1
 done_status false done failed = if is_whole done failed then end_status done.end else 1
-
--- the paths of the files at which a sink failed and that are left out, if there is a sink
-abbrev pub failed_paths : {S : Type 0} → Option (InLeaving S) → List (List ℕ)
-failed_paths None = []
-failed_paths (Some sink) = map (λ (i : Item). i.path) sink.left
 
 -- 3 if reading or writing failed or the input has no end, 1 for any other fault
 abbrev pub run_status : Bool → Result Extracted ExtractFault → List (List ℕ) → ℕ

@@ -1,18 +1,20 @@
 //! The command `check`.
 ghost use Rattle.std.specs.Prelude.{◌≡◌, IfErr, IfOk, OnOk};
 ghost use Rattle.std.specs.Io.KnownBytes.{Appends};
-ghost use Rattle.br_check.specs.Check.{checked_text};
+ghost use Rattle.br_check.specs.Check.{end_text};
+ghost use Rattle.br_check.specs.Told.{TellsMore};
 ghost use Rattle.br_engine.specs.Fault.{IsFree};
 ghost use Rattle.br_volume.specs.Drive.{OnlyGrows};
 ghost use Rattle.br_model.specs.Meaning.{pieces_of};
 ghost use Rattle.br_check.specs.Shown.{shown_between};
 ghost use Rattle.br_cli.specs.CheckCommand.{ChecksFor, ChecksTask, HasSums, checked_status, run_refusal, run_status};
 
-use crate::extract_command::{BootstrapFile, ExtractStartFault, refuse, report_stream};
+use crate::extract_command::{BootstrapFile, ExtractStartFault, expect, refuse, report_stream};
 use br_bsr::Bootstrap;
 use br_check::{Checked, check, push_checksums};
-use br_cli_common::{BAD_STREAM, CLEAN, CheckOptions, Checksums, REFUSED};
-use br_cli_target::Ending;
+use br_cli_common::{BAD_STREAM, CLEAN, CheckOptions, Checksums, Progress, REFUSED, Target};
+use br_cli_progress::{ClearingWriter, Gauge, WatchedDrive};
+use br_cli_target::{Ending, gauge_of};
 use br_engine::{ExtractFault, Flush, ReadBootstrap, show};
 use br_volume::{Drive, FolderDrive, HostDrive};
 use std::alloc::{AllocError, Global};
@@ -25,31 +27,32 @@ fn status_of(checked: &Checked) -> u8
     if checked.is_clean() { CLEAN } else { REFUSED }
 }
 
-/// Writes the findings of a check and flushes them.
-fn show_checked<W: Flush>(
-    alloc: Global,
-    writer: &mut W,
-    checked: &Checked,
-) -> Result<(), ExtractFault>
-    ensures written { OnOk result (Appends (W.contents writer.old) (W.contents writer.new) (checked_text checked.now)) }
+/// Writes what follows the findings of a check, and flushes all.
+fn show_end<W: Flush>(alloc: Global, writer: &mut W, checked: &Checked) -> Result<(), ExtractFault>
+    ensures written { OnOk result (Appends (W.contents writer.old) (W.contents writer.new) (end_text checked.now)) }
     ensures flushed { OnOk result (W.is_flushed writer.new) }
     ensures free { IfErr result IsFree }
 {
     let mut text = Vec::new(alloc);
-    checked.push_text(&mut text)?;
+    checked.push_end(&mut text)?;
     show(writer, &text)?;
     Ok(())
 }
 
-/// Returns the findings, and the lines of the blocks whose checksums differ.
-fn with_checksums<D: Drive>(
+/// Returns the findings, and the lines of the blocks whose checksums differ. Writes each of these lines as
+/// it is found.
+fn with_checksums<D: Drive, W: Flush>(
     alloc: Global,
     checked: Checked,
     bootstrap: &Bootstrap,
     drive: &mut D,
-) -> Result<Checked, AllocError>
+    writer: &mut W,
+) -> Result<Checked, ExtractFault>
     ensures sums { IfOk result (HasSums (shown_between D.Drive drive.old drive.new) (pieces_of bootstrap.now) checked) }
+    ensures written { IfOk result (λ summed.
+        TellsMore (W.contents writer.old) (W.contents writer.new) checked.findings.items summed.findings.items) }
     ensures grows { OnlyGrows (D.shows drive.old) (D.shows drive.new) }
+    ensures free { IfErr result IsFree }
 {
     let Checked {
         mut findings,
@@ -57,7 +60,7 @@ fn with_checksums<D: Drive>(
         bytes,
         memory,
     } = checked;
-    push_checksums(alloc, &mut findings, bootstrap, drive)?;
+    push_checksums(alloc, &mut findings, bootstrap, drive, writer)?;
     Ok(Checked {
         findings,
         files,
@@ -67,21 +70,26 @@ fn with_checksums<D: Drive>(
 }
 
 /// Checks a bootstrap over the volumes of a drive, and the checksums of its blocks if they are to
-/// be compared. The memory is that of a restore that holds at most `budget` bytes of data.
-fn checked_for<D: Drive>(
+/// be compared. The memory is that of a restore that holds at most `budget` bytes of data. Writes the
+/// findings, those of the checksums as they are found.
+fn checked_for<D: Drive, W: Flush>(
     alloc: Global,
     read: &ReadBootstrap,
     budget: u64,
     drive: &mut D,
     checksums: Checksums,
-) -> Result<Checked, AllocError>
+    writer: &mut W,
+) -> Result<Checked, ExtractFault>
     ensures checked { IfOk result (ChecksFor D.Drive drive.old drive.new read.now budget checksums) }
+    ensures written { IfOk result (λ checked. Appends (W.contents writer.old) (W.contents writer.new) checked.findings.items) }
     ensures grows { OnlyGrows (D.shows drive.old) (D.shows drive.new) }
+    ensures free { IfErr result IsFree }
 {
     let checked = check(alloc, &read.bootstrap, &read.counts, budget, drive)?;
+    show(writer, &checked.findings)?;
     match checksums {
         Checksums::Passed => Ok(checked),
-        Checksums::Compared => with_checksums(alloc, checked, &read.bootstrap, drive),
+        Checksums::Compared => with_checksums(alloc, checked, &read.bootstrap, drive, writer),
     }
 }
 
@@ -115,14 +123,38 @@ pub fn set_up_check<'r, 'p>(
     })
 }
 
+/// Returns a task whose drive reports its progress to a gauge.
+fn with_watched_drive<'g, 'r, 'p, D>(
+    task: CheckTask<'p, D>,
+    gauge: &'g Gauge<'r>,
+) -> CheckTask<'p, WatchedDrive<'g, 'r, D>>
+    ensures bootstrap { result.bootstrap ≡ task.entry.bootstrap }
+    ensures drive { result.drive.inner ≡ task.entry.drive }
+    ensures memory { result.memory ≡ task.entry.memory }
+    ensures checksums { result.checksums ≡ task.entry.checksums }
+{
+    let CheckTask {
+        bootstrap,
+        drive,
+        memory,
+        checksums,
+    } = task;
+    CheckTask {
+        bootstrap,
+        drive: WatchedDrive::new(drive, gauge),
+        memory,
+        checksums,
+    }
+}
+
 /// Carries out a task: checks the bootstrap over the volumes of the drive, and writes a line for
-/// each finding, the memory that a restore needs, and then the number of files that would be
-/// restored and of their bytes. Returns the exit status.
+/// each finding, those of checksums as they are found, the memory that a restore needs, and then the
+/// number of files that would be restored and of their bytes. Returns the exit status.
 ///
 /// # Errors
 ///
 /// The refusal of a line of the bootstrap, before anything is read or written. `Memory` if memory ran out,
-/// and `Io` if the writer failed.
+/// and `Io` if the writer failed; findings may be written by then.
 pub fn check_over<D: Drive, W: Flush>(
     alloc: Global,
     task: &mut CheckTask<'_, D>,
@@ -136,8 +168,9 @@ pub fn check_over<D: Drive, W: Flush>(
         Ok(read) => read,
         Err(fault) => return Err(ExtractFault::Bootstrap(*fault)),
     };
-    let checked = checked_for(alloc, read, task.memory, &mut task.drive, task.checksums)?;
-    show_checked(alloc, writer, &checked)?;
+    let (memory, checksums) = (task.memory, task.checksums);
+    let checked = checked_for(alloc, read, memory, &mut task.drive, checksums, writer)?;
+    show_end(alloc, writer, &checked)?;
     Ok(status_of(&checked))
 }
 
@@ -172,7 +205,7 @@ fn report(rt: &HostRuntime, run: Result<u8, ExtractFault>) -> io::Result<u8>
 
 /// Checks the bootstrap in a file over the volumes in a folder. Prints a line for each finding, the
 /// memory that a restore needs, and then the number of files that would be restored and of their
-/// bytes. Restores nothing.
+/// bytes. Restores nothing. A terminal is shown how far the check is.
 ///
 /// Returns the exit status: 0 if nothing was found; 1 if something was found or a line of the bootstrap was
 /// refused; 3 if the bootstrap could not be read or standard output failed.
@@ -181,10 +214,15 @@ fn report(rt: &HostRuntime, run: Result<u8, ExtractFault>) -> io::Result<u8>
 ///
 /// If memory ran out or standard error failed.
 pub fn check_files(rt: &HostRuntime, given: &CheckOptions<'_>) -> io::Result<u8> {
-    let mut task = match set_up_check(rt, given) {
+    let task = match set_up_check(rt, given) {
         Ok(task) => task,
         Err(fault) => return refuse(rt, given.bsr, fault),
     };
-    let run = check_over(rt.alloc(), &mut task, &mut io::writer(rt));
+    let gauge = gauge_of(rt, given.volumes, Target::Nowhere, Progress::Shown, None)?;
+    expect(&gauge, task.bootstrap.bootstrap());
+    let mut task = with_watched_drive(task, &gauge);
+    let mut writer = ClearingWriter::new(io::writer(rt), &gauge);
+    let run = check_over(rt.alloc(), &mut task, &mut writer);
+    gauge.clear();
     report(rt, run)
 }

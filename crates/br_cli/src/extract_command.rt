@@ -4,7 +4,7 @@ ghost use Rattle.br_cli_common.specs.Options.{AreFew};
 ghost use Rattle.br_pool.specs.Pool.{AreDrives};
 ghost use Rattle.br_volume.specs.HostDrives.{AreOver};
 ghost use Rattle.br_cli_target.specs.AskedTarget.{folder_asked, stream_asked};
-ghost use Rattle.br_cli.specs.ExtractEnding.{asks_in, done_status, extent, failed_paths, is_whole, run_refusal, run_status, told_status};
+ghost use Rattle.br_cli.specs.ExtractEnding.{asks_in, done_status, extent, run_refusal, run_status, told_status};
 ghost use Rattle.br_cli.specs.ExtractStarting.{start_status};
 ghost use Rattle.br_cli_target.specs.TarEnding.{IsShown};
 ghost use Rattle.br_engine.specs.Restores.{change};
@@ -16,15 +16,15 @@ use br_cli_common::{BAD_STREAM, CLEAN, ExtractOptions, REFUSED, Target, refuse_s
 use br_cli_progress::{Gauge, WatchedSink, WatchedWriter};
 use br_cli_target::{
     Channel, Ending, LeavingSink, PutExtent, Settle, Streamed, TarEnd, TarFault, ToldOutcomes,
-    add_tar_end, advise, end_stream, folder_of, gauge_of, lacks_volumes, leaving_over, log_fault,
-    refuse_log, refuse_place, restore_over, say_conflicts, say_files, say_nowhere, say_stop,
-    say_volumes, tar_into, tar_output, tell_others, tell_outcomes, with_watched_drives,
-    with_watched_sink,
+    add_tar_end, advise, end_stream, folder_of, gauge_of, is_whole, lacks_volumes, leaving_over,
+    left_out, log_fault, refuse_log, refuse_place, restore_over, say_conflicts, say_files,
+    say_nowhere, say_stop, say_volumes, tar_into, tar_output, tell_others, tell_outcomes,
+    with_watched_drives, with_watched_sink,
 };
 use br_engine::{
     ExtractFault, Extracted, Flush, ReadBootstrap, Restore, RestoreEnd, RestoreOrder, read_text,
 };
-use br_sink::{Leaving, Sink};
+use br_sink::Sink;
 use br_sink_folder::FolderFault;
 use br_sink_tar::TarSink;
 use br_types::{Gaps, Path, Start, Wanted};
@@ -35,13 +35,6 @@ use std::io::{self, BufWriter, ErrorKind};
 use std::sync::Wait;
 use std::thread::Threads;
 use thiserror::Error;
-
-/// Returns true if nothing is reported as missing, and no file is left out.
-fn is_whole(done: &Extracted, failed: &[Path]) -> bool
-    ensures { result ≡ is_whole done.now failed.now }
-{
-    done.missing.is_empty() && done.left.is_empty() && failed.is_empty()
-}
 
 /// Returns the exit status of a restore that wrote its manifest.
 fn status_of(done: &Extracted, failed: &[Path]) -> u8
@@ -224,7 +217,7 @@ impl<'p> BootstrapFile<'p> {
     }
 
     /// Returns the bootstrap, if the text is not refused.
-    fn bootstrap(&self) -> Option<&Bootstrap> {
+    pub(crate) fn bootstrap(&self) -> Option<&Bootstrap> {
         match &self.read {
             Ok(read) => Some(&read.bootstrap),
             Err(_) => None,
@@ -378,16 +371,6 @@ fn refuse_told(
     }
 }
 
-/// Returns the paths of the files that a sink left out since it failed at them, if there is a sink.
-fn left_out<S: Sink + Drop>(sink: &Option<Leaving<S>>) -> &[Path]
-    ensures { result.now ≡ failed_paths sink.now }
-{
-    match sink {
-        Some(sink) => sink.left_out(),
-        None => &[],
-    }
-}
-
 /// Restores. The manifest goes to the writer; then the wanted files go into the sink, if there is
 /// one. If the text of the bootstrap is refused, nothing is read.
 pub fn extract_over<D: Drive + Send, W: Flush, S: Sink>(
@@ -464,7 +447,7 @@ fn name_others(
 }
 
 /// Reports to the gauge what is to be read, if there is a bootstrap.
-fn expect(gauge: &Gauge<'_>, bootstrap: Option<&Bootstrap>) {
+pub(crate) fn expect(gauge: &Gauge<'_>, bootstrap: Option<&Bootstrap>) {
     if let Some(bootstrap) = bootstrap {
         gauge.expect_volumes(bootstrap);
     }
