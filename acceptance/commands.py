@@ -269,6 +269,58 @@ def sessions(checks, folder):
     checks.check("makes no catalogue", missing.exists(), False)
 
 
+def wishes(checks, folder):
+    """Sessions that resume, leave out what conflicts, and report what is missing."""
+    place = Place(folder, CONFLICT)
+    words = console_words(place, place.catalogue(b"/a/b"), "--into", place.into, "--keep-going")
+    left = (1, MARKED + both(b"/a/b") + TWO, b"left 81 /a/b\n")
+    checks.check("a marked path that is left out", (run(checks, words, ALL), place.files()), (left, ONLY_A))
+    place = Place(folder, PLAIN)
+    words = console_words(place, place.catalogue(), "--into", place.into)
+    (place.into / "a").write_bytes(b"hello")
+    (place.into / "x").write_bytes(b"mine")
+    checks.check("a folder that is not empty", run(checks, words, ALL), (1, b"", b"refused 81\n"))
+    found = run(checks, [*words, "--resume"], ALL)
+    whole = (0, MARKED + both() + TWO, b"other /x\n")
+    checks.check("which a session resumes", (found, place.files()), (whole, {**BOTH, "x": b"mine"}))
+    checks.check("and one that is quit", run(checks, [*words, "--resume"], b"quit\n"), (0, b"", b""))
+    place = Place(folder, {"V": block_of(1, "a", b"hello")})
+    words = console_words(place, place.catalogue())
+    lost = (1, MARKED + line_of(b"1 100", 1, b"/a", 5, HELLO) + b"X 1 100 2 63\ntotal 1 1 0\n", b"")
+    for more in ([], ["--complete"]):
+        checks.check(f"a marked file that the volume lacks, {more}", run(checks, [*words, *more], ALL), lost)
+    place = Place(folder, PLAIN)
+    words = console_words(place, place.catalogue(), "--complete")
+    checks.check("none that it lacks", run(checks, words, ALL), (0, MARKED + both() + TWO, b""))
+
+
+def manifests(checks, folder):
+    """Sessions that write the manifest to a file."""
+    place = Place(folder, PLAIN)
+    db, manifest = place.catalogue(), place.folder / "manifest"
+    manifest.write_bytes(b"F" * 5000)
+    words = console_words(place, db, "--manifest", manifest, "--into", place.into)
+    found = run(checks, words, ALL)
+    checks.check("a manifest in a file", (found, manifest.read_bytes(), place.files()), ((0, MARKED, b""), both() + TWO, BOTH))
+    found = run(checks, [*words, "--resume"], b"quit\n")
+    checks.check("of a session that is quit", (found, manifest.read_bytes()), ((0, b"", b""), b""))
+    status, stream, told = run(checks, console_words(place, db, "--manifest", manifest, "--tar", "-"), ALL)
+    found = (status, len(stream), hashlib.md5(stream).hexdigest(), told, manifest.read_bytes())
+    checks.check("beside a stream", found, (0, *BOTH_TAR, MARKED, both() + TWO))
+    found = run(checks, console_words(place, db, "--manifest", "/dev/stdout"), ALL)
+    checks.check("in a pipe", found, (0, MARKED + both() + TWO, b""))
+    (place.volumes / "V").unlink()
+    found = run(checks, console_words(place, db, "--manifest", manifest), ALL)
+    checks.check("of a refused restore", (found, manifest.read_bytes()), ((1, MARKED, b"refused 14 V 0\n"), b""))
+    place = Place(folder, PLAIN)
+    for name, file, printed, told in [
+        ("in a folder that is not there", place.folder / "none/m", b"", b"brestore: %s: No such file or directory (os error 2)\n"),
+        ("on a full disk", "/dev/full", MARKED, b"brestore: standard input or output, or %s: No space left on device (os error 28)\n"),
+    ]:
+        found = run(checks, console_words(place, place.catalogue(), "--manifest", file, "--into", place.into), ALL)
+        checks.check(name, (found, place.files()), ((3, printed, told % os.fsencode(file)), {}))
+
+
 JOB = b"job %d B F T 100 2 100 64512 venus work\nput 3 %s 616263 - A A IGk B A A A D A A A A A A\nplace %s 0\n"
 NEW = line_of(b"2 100", 1, b"/x", 3, b"3 900150983cd24fb0d6963f7d28e17f72") + b"total 1 0 0\n"
 PLANNED = b'stored 2\n1 marked\nVolume="%s"\nVolSessionId=2\nVolSessionTime=100\nVolAddr=%s\nFileIndex=1\n'
@@ -385,7 +437,7 @@ def main():
     parser.add_argument("--program", type=os.path.abspath, default=PROGRAM, help="the program (default: %(default)s)")
     checks = Checks(parser.parse_args().program)
     with tempfile.TemporaryDirectory() as folder:
-        for part in (extracts, streams, sessions, purged, scripts, many, full):
+        for part in (extracts, streams, sessions, wishes, manifests, purged, scripts, many, full):
             part(checks, folder)
     return 1 if checks.failed else 0
 

@@ -72,7 +72,7 @@ def checks_whole(checks):
         into.mkdir()
         checks.check_run("a restore", folder, ["--into", into], (0, manifest, b""), [*puts(SOME), *count(3, 3)])
         full = f"  {into} is a folder that is not empty. Next: Choose an empty folder; "
-        full += "`extract --resume` goes on with a restore that was cut off."
+        full += "`--resume` goes on with a restore that was cut off."
         told = ["refused 81", *words_of(81), full]
         checks.check_run("a second one", folder, ["--into", into], (1, b"", b"refused 81\n"), told)
         (into / "in" / "z").write_bytes(b"other")
@@ -162,7 +162,7 @@ def checks_reasons(checks):
         folder = Path(made)
         manifest, into = write_volume(folder, files), folder / "into"
         into.mkdir()
-        told = [*puts(files[:1]), "refused 81", *words_of(81), conflict + "`extract --keep-going` leaves it out.", *count(1, 3)]
+        told = [*puts(files[:1]), "refused 81", *words_of(81), conflict + "`--keep-going` leaves it out.", *count(1, 3)]
         checks.check_run("a path that conflicts", folder, ["--into", into], (1, manifest, b"refused 81\n"), told)
         told = [*puts([files[0], files[2]]), "left 81 /in/a/b", conflict + "Restore it into another folder.", *count(2, 3)]
         plain = (1, manifest, b"left 81 /in/a/b\n")

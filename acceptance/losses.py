@@ -21,9 +21,10 @@ line. So a row that comes before the sync of a volume, and a name that is not sy
 
 `deliveries` has restores run to their end, and then drops all that was not synced: `extract` and `console` with `--sync --into` leave each
 file and folder of the manifest, and without `--sync` nothing is synced there; `extract --tar FILE` leaves each entry and the end of the
-stream, `--log FILE` each line, if the names of the two are there. Then `extract --sync --into` is cut at drawn calls: each file of a line
-`put` in the log is whole, and `--resume` makes the folder whole. It is also killed at these calls, and goes on by `--resume` without a loss:
-then a loss of all that was not synced in both runs leaves the whole folder.
+stream, `--log FILE` each line, and `console --manifest FILE` the manifest, if the names of these files are there. Then
+`extract --sync --into` is cut at drawn calls: each file of a line `put` in the log is whole, and `--resume` makes the folder whole. It is
+also killed at these calls, and goes on by `--resume` without a loss: then a loss of all that was not synced in both runs leaves the whole
+folder.
 
 `--seed` draws other jobs and moments, and `--moments` says how many. The status is 1 if something differs.
 """
@@ -376,7 +377,7 @@ def check_into(rows, given, name, words, into, text, expected, tree):
 def check_console(rows, given, folder):
     """Restores by a session from a catalogue that the program made of a script."""
     lines = job_lines(1, b"A", b"B")
-    lines[1:1] = [b"put 5 /d/ - - A A EHt A A A A A A A A A A", put_line(b"/e/f/g", b"long" * 1000)]
+    lines[1:1] = [b"put 5 /d/ - - A A EHt A A A A A A A A A A", put_line(b"/e/f/g", b"long" * 400)]
     whole, place = Script(text_of(lines)), Place(str(folder))
     rows.check("a script", place.serve(given.program, text_of(lines)), carried_out(whole))
     words = ["console", "--db", place.catalogue, "--volumes", place.volumes, "--client", CLIENT.decode()]
@@ -384,6 +385,11 @@ def check_console(rows, given, folder):
     expected = consoled(whole.jobs, whole.volumes, (CLIENT, FILE_SET, 1000), ALL)
     (folder / "into").mkdir()
     check_into(rows, given, "console", words, folder / "into", ALL, expected, delivery(expected[1])[0])
+    status, printed, told = expected
+    end, manifest = printed.index(b"\nF ") + 1, folder / "x.manifest"
+    found, calls = recorded(given, [*words, "--manifest", manifest], str(folder), text=ALL)
+    rows.check("console --manifest", found, (status, printed[:end], told))
+    rows.check("console --manifest, what is left", synced_alone(calls, manifest), printed[end:])
 
 
 def entries_of(stream):

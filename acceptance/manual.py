@@ -43,6 +43,8 @@ LINES = [
     ("brestore check --volumes ", [FOLDER]),
     ("brestore console --client ", []),
     ("brestore console --f", ["--fileset"]),
+    ("brestore console --m", ["--manifest", "--memory"]),
+    ("brestore console --manifest j", [FILE]),
     ("brestore jobs --", ["--before", "--client", "--db", "--fileset", "--help", "--local", "--verify-catalogue"]),
     ("brestore serve --m", ["--memory"]),
     ("brestore migrate --v", []),

@@ -15,9 +15,9 @@ use Rattle.br_cli_common.specs.declared.options.Syncs.TheVariants as syncs
 use Rattle.br_types.specs.DecimalField.{number_spelled}
 use Rattle.br_model.specs.Text.{decimal_value}
 use Rattle.br_cli_args.specs.ByteSize.{last_sized, size_spelled}
-use Rattle.br_cli_args.specs.Words.CommandAsked.{Check, Explain, ExplainAll, Extract, Jobs, Migrate, Serve, ServeFiles}
+use Rattle.br_cli_args.specs.Words.CommandAsked.{Check, Console, Explain, ExplainAll, Extract, Jobs, Migrate, Serve, ServeFiles}
 use Rattle.br_cli_args.specs.Words.Goal.{Folder, Nowhere, TarFile, TarOutput}
-use Rattle.br_cli_args.specs.Words.{asked_by, check_asked, checksums_asked, clock_asked, console_asked, copies_asked, drives_asked, explain_asked, extract_asked, file_rows_asked, gaps_asked, jobs_asked, log_asked, memory_asked, migrate_asked, number_asked, progress_asked, serve_asked, start_asked, stops_asked, syncs_asked, target_asked, wanted_asked}
+use Rattle.br_cli_args.specs.Words.{asked_by, check_asked, checksums_asked, clock_asked, console_asked, copies_asked, drives_asked, explain_asked, extract_asked, file_rows_asked, gaps_asked, jobs_asked, log_asked, manifest_asked, memory_asked, migrate_asked, number_asked, progress_asked, serve_asked, start_asked, stops_asked, syncs_asked, target_asked, wanted_asked}
 
 -- this value was found for an option
 abbrev found : Text → Text → Row
@@ -120,6 +120,9 @@ zones_of_a_list = refl
 file_of_a_log : log_asked [] ∷ log_asked (found (codes "log") (codes "l") ∷ []) ∷ [] ≡ None ∷ Some (codes "l") ∷ []
 file_of_a_log = refl
 
+file_of_a_manifest : manifest_asked [] ∷ manifest_asked (found (codes "manifest") (codes "m") ∷ []) ∷ [] ≡ None ∷ Some (codes "m") ∷ []
+file_of_a_manifest = refl
+
 -- ---- commands
 
 -- the options that have a value without being given
@@ -142,6 +145,20 @@ extract_that_resumes_nothing = refl
 console_without_a_moment : console_asked (found (codes "db") (codes "d") ∷ found (codes "volumes") (codes "v") ∷ found (codes "client") (codes "c") ∷ found (codes "fileset") (codes "f") ∷ defaults) ≡ None
 unfolding console_asked
 console_without_a_moment = refl
+
+-- the options that every session has
+abbrev session : List Row → List Row
+session more =
+    found (codes "db") (codes "d") ∷ found (codes "volumes") (codes "v") ∷ found (codes "client") (codes "c") ∷ found (codes "fileset") (codes "f") ∷ found (codes "before") (codes "t") ∷ more
+
+console_of_its_files : console_asked (session (flag (codes "complete") ∷ flag (codes "resume") ∷ found (codes "into") (codes "i") ∷ found (codes "manifest") (codes "m") ∷ defaults))
+    ≡ Some (Console (codes "d") (codes "v") (codes "c") (codes "f") (codes "t") file_rows.Needed (Folder (codes "i")) 1 7 (record { copies = copies.All; gaps = gaps.Reported; stops = stops.AtFirst }) starts.Resumed syncs.Never progress.Shown None (Some (codes "m")))
+unfolding console_asked drives_asked memory_asked size_spelled last_sized number_spelled decimal_value target_asked gaps_asked stops_asked start_asked syncs_asked progress_asked file_rows_asked
+console_of_its_files = refl
+
+console_that_resumes_nothing : console_asked (session (flag (codes "resume") ∷ defaults)) ≡ None
+unfolding console_asked drives_asked memory_asked size_spelled last_sized number_spelled decimal_value target_asked start_asked
+console_that_resumes_nothing = refl
 
 check_of_its_files : check_asked (found (codes "bsr") (codes "b") ∷ found (codes "volumes") (codes "v") ∷ defaults) ≡ Some (Check (codes "b") (codes "v") checksums.Passed 7)
 unfolding check_asked memory_asked size_spelled last_sized number_spelled decimal_value checksums_asked

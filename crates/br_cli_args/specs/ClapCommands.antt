@@ -49,11 +49,13 @@ with_restoring app =
     value_rule (codes "log") false ∷
     [])
 
--- `--newest`, `--complete`, `--keep-going` and `--resume`, all optional
+-- `--complete`, `--keep-going` and `--resume`, all optional
+abbrev pub with_session_choices : App → App
+with_session_choices app = fold with_rule app (flag_rule (codes "complete") ∷ flag_rule (codes "keep-going") ∷ flag_rule (codes "resume") ∷ [])
+
+-- `--newest` and these, all optional
 abbrev pub with_choices : App → App
-with_choices app =
-    fold with_rule app
-    (flag_rule (codes "newest") ∷ flag_rule (codes "complete") ∷ flag_rule (codes "keep-going") ∷ flag_rule (codes "resume") ∷ [])
+with_choices app = with_session_choices (with_rule app (flag_rule (codes "newest")))
 
 -- `extract --bsr FILE --volumes DIR`, and the optional ones
 unfoldable pub extract_app : App
@@ -64,7 +66,7 @@ extract_app =
 -- ones
 unfoldable pub console_app : App
 console_app =
-    with_restoring
+    with_session_choices (with_restoring
     (command_with (codes "console")
     (value_rule (codes "db") true ∷
     value_rule (codes "volumes") true ∷
@@ -72,7 +74,8 @@ console_app =
     value_rule (codes "fileset") true ∷
     value_rule (codes "before") true ∷
     flag_rule (codes "verify-catalogue") ∷
-    []))
+    value_rule (codes "manifest") false ∷
+    [])))
 
 -- `check --bsr FILE --volumes DIR` with the optional `--checksums` and `--memory SIZE`
 unfoldable pub check_app : App

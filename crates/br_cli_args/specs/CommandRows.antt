@@ -27,7 +27,7 @@ with_rows rows app = fold (λ a row. with_rule a (rule_of_row row)) app rows
 
 -- the command of a row
 abbrev pub app_of_row : CommandRow → App
-app_of_row row = with_rows row.by_bootstrap.now (with_rows row.restoring.now (with_rows row.own.now (new_app row.name.now)))
+app_of_row row = with_rows row.choices.now (with_rows row.restoring.now (with_rows row.own.now (new_app row.name.now)))
 
 -- a program with the commands of rows after its own
 abbrev pub with_commands_of : List CommandRow → App → App

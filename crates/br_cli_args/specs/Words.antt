@@ -49,8 +49,9 @@ pub data Goal : Type 0 where
 -- of the files, the number of drives, the memory, the further wishes, what the folder may hold,
 -- whether files are synced, whether progress is shown, and the file of a log, if there is one. A
 -- catalogue's file, the folder of the volumes, client, file set and moment, the rows of files that
--- are looked at, the target of the files, the number of drives, the memory, whether files are synced,
--- whether progress is shown, and the file of a log, if there is one. A bootstrap's file, the folder
+-- are looked at, the target of the files, the number of drives, the memory, the further wishes, what
+-- the folder may hold, whether files are synced, whether progress is shown, and the files of a log and
+-- of a manifest, if there are any. A bootstrap's file, the folder
 -- of the volumes, what is done with checksums, and the memory. A catalogue's file; client, file set
 -- and moment of jobs, each if it is given; the rows of files that are looked at; and the zones in
 -- which moments are shown. A catalogue's file. A number. All numbers.
@@ -58,7 +59,7 @@ pub data CommandAsked : Type 0 where
   Serve : ℕ → CommandAsked
   ServeFiles : Text → Text → ℕ → CommandAsked
   Extract : Text → Text → Goal → ℕ → ℕ → Wanted → Start → Syncs → Progress → Option Text → CommandAsked
-  Console : Text → Text → Text → Text → Text → FileRows → Goal → ℕ → ℕ → Syncs → Progress → Option Text → CommandAsked
+  Console : Text → Text → Text → Text → Text → FileRows → Goal → ℕ → ℕ → Wanted → Start → Syncs → Progress → Option Text → Option Text → CommandAsked
   Check : Text → Text → Checksums → ℕ → CommandAsked
   Jobs : Text → Option Text → Option Text → Option Text → FileRows → Clock → CommandAsked
   Migrate : Text → CommandAsked
@@ -83,7 +84,8 @@ asked (commands.ServeFiles o) = ServeFiles o.db.now o.volumes.now o.memory
 asked (commands.Extract o) =
     Extract o.bsr.now o.volumes.now (target o.target) o.drives o.memory o.wanted o.start o.syncs o.progress (text_of o.log)
 asked (commands.Console o) =
-    Console o.db.now o.volumes.now o.client.now o.fileset.now o.before.now o.file_rows (target o.target) o.drives o.memory o.syncs o.progress (text_of o.log)
+    Console o.db.now o.volumes.now o.client.now o.fileset.now o.before.now o.file_rows (target o.target) o.drives o.memory o.wanted o.start o.syncs o.progress
+    (text_of o.log) (text_of o.manifest)
 asked (commands.Check o) = Check o.bsr.now o.volumes.now o.checksums o.memory
 asked (commands.Jobs o) = Jobs o.db.now (text_of o.client) (text_of o.fileset) (text_of o.before) o.file_rows o.clock
 asked (commands.Migrate db) = Migrate db.now
@@ -162,6 +164,10 @@ stops_asked rows = stops_by (is_given (codes "keep-going") rows)
 abbrev pub wanted_asked : List Row → Wanted
 wanted_asked rows = record { copies = copies_asked rows; gaps = gaps_asked rows; stops = stops_asked rows }
 
+-- those of `console`: all copies are wanted, since a session has one of each path
+abbrev pub session_wanted : List Row → Wanted
+session_wanted rows = record { copies = copies.All; gaps = gaps_asked rows; stops = stops_asked rows }
+
 -- whether the files of a delivery are synced: with `--sync`
 abbrev pub syncs_by : Bool → Syncs
 syncs_by is_synced = if is_synced then syncs.Each else syncs.Never
@@ -189,6 +195,10 @@ progress_asked rows = progress_by (is_given (codes "quiet") rows)
 -- the file of a log, if there is one
 abbrev pub log_asked : List Row → Option Text
 log_asked rows = first_of (codes "log") rows
+
+-- the file of a manifest, if there is one
+abbrev pub manifest_asked : List Row → Option Text
+manifest_asked rows = first_of (codes "manifest") rows
 
 -- what `check` does with checksums: it compares them with `--checksums`
 abbrev pub checksums_by : Bool → Checksums
@@ -248,7 +258,11 @@ console_asked rows =
     option_and_then (λ before.
     option_and_then (λ goal.
     option_and_then (λ drives.
-    option_map (λ memory. Console db volumes client fileset before (file_rows_asked rows) goal drives memory (syncs_asked rows) (progress_asked rows) (log_asked rows)) (memory_asked rows))
+    option_and_then (λ memory.
+    option_map (λ start. Console db volumes client fileset before (file_rows_asked rows) goal drives memory (session_wanted rows) start (syncs_asked rows)
+    (progress_asked rows) (log_asked rows) (manifest_asked rows))
+    (start_for goal (start_asked rows)))
+    (memory_asked rows))
     (drives_asked rows))
     (target_asked rows))
     (first_of (codes "before") rows))

@@ -8,15 +8,15 @@ use crate::option_row::{OptionRow, with_options};
 use clap::Command;
 use std::alloc::{AllocError, Global};
 
-/// A command with its options: its own, those of every restore, and those of a restore by a
-/// bootstrap.
+/// A command with its options: its own, those of every restore, and those for the further wishes of
+/// a restore.
 #[derive(Clone, Copy)]
 pub(crate) struct CommandRow {
     pub(crate) name: &'static str,
     pub(crate) about: &'static str,
     pub(crate) own: &'static [OptionRow],
     pub(crate) restoring: &'static [OptionRow],
-    pub(crate) by_bootstrap: &'static [OptionRow],
+    pub(crate) choices: &'static [OptionRow],
 }
 
 /// Returns the command of a row.
@@ -27,7 +27,7 @@ fn command_of<'a>(alloc: Global, row: &CommandRow) -> Result<Command<'a>, AllocE
     let command = Command::new(alloc, row.name).about(row.about);
     let own = with_options(alloc, command, row.own)?;
     let restoring = with_options(alloc, own, row.restoring)?;
-    with_options(alloc, restoring, row.by_bootstrap)
+    with_options(alloc, restoring, row.choices)
 }
 
 /// Returns the command of the row with this name, if there is one. In its usage it is one of the

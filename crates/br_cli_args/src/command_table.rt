@@ -92,6 +92,30 @@ const RESTORING: [OptionRow; 7] = [
     },
 ];
 
+/// The option to report missing files.
+const COMPLETE: OptionRow = OptionRow {
+    name: "complete",
+    value: "",
+    takes: ValueKind::Nothing,
+    help: "Reports the files that the bootstrap asks for and that are not there",
+};
+
+/// The option to leave out files that can't be written.
+const KEEP_GOING: OptionRow = OptionRow {
+    name: "keep-going",
+    value: "",
+    takes: ValueKind::Nothing,
+    help: "Leaves out a file that can't be written, and writes the others",
+};
+
+/// The option to go on with a restore.
+const RESUME: OptionRow = OptionRow {
+    name: "resume",
+    value: "",
+    takes: ValueKind::Nothing,
+    help: "Goes on with a restore that was cut off: of the files in DIR those that are whole stay",
+};
+
 /// The options for the further wishes of a restore by a bootstrap.
 const CHOICES: [OptionRow; 4] = [
     OptionRow {
@@ -100,31 +124,19 @@ const CHOICES: [OptionRow; 4] = [
         takes: ValueKind::Nothing,
         help: "Writes the newest copy alone of a path that comes several times",
     },
-    OptionRow {
-        name: "complete",
-        value: "",
-        takes: ValueKind::Nothing,
-        help: "Reports the files that the bootstrap asks for and that are not there",
-    },
-    OptionRow {
-        name: "keep-going",
-        value: "",
-        takes: ValueKind::Nothing,
-        help: "Leaves out a file that can't be written, and writes the others",
-    },
-    OptionRow {
-        name: "resume",
-        value: "",
-        takes: ValueKind::Nothing,
-        help: "Goes on with a restore that was cut off: of the files in DIR those that are whole stay",
-    },
+    COMPLETE,
+    KEEP_GOING,
+    RESUME,
 ];
+
+/// Those of a restore of marked files, which has one copy of each path.
+const SESSION_CHOICES: [OptionRow; 3] = [COMPLETE, KEEP_GOING, RESUME];
 
 /// The options that only `extract` has.
 const EXTRACT: [OptionRow; 2] = [BSR, VOLUMES];
 
 /// The options that only `console` has.
-const CONSOLE: [OptionRow; 6] = [
+const CONSOLE: [OptionRow; 7] = [
     DB,
     VOLUMES,
     OptionRow {
@@ -146,6 +158,12 @@ const CONSOLE: [OptionRow; 6] = [
         help: "Uses only jobs that began before YYYY-MM-DD HH:MM:SS, in UTC",
     },
     VERIFY_CATALOGUE,
+    OptionRow {
+        name: "manifest",
+        value: "FILE",
+        takes: ValueKind::Value,
+        help: "The file to write the manifest to, apart from the answers; what is in it is replaced",
+    },
 ];
 
 /// The options of `check`.
@@ -229,49 +247,49 @@ const COMMANDS: [CommandRow; 7] = [
         about: "Restores the files of a bootstrap from a folder of volumes",
         own: &EXTRACT,
         restoring: &RESTORING,
-        by_bootstrap: &CHOICES,
+        choices: &CHOICES,
     },
     CommandRow {
         name: "console",
         about: "Marks files as they were at a moment, and restores them",
         own: &CONSOLE,
         restoring: &RESTORING,
-        by_bootstrap: &NONE,
+        choices: &SESSION_CHOICES,
     },
     CommandRow {
         name: "check",
         about: "Checks a bootstrap over its volumes, and restores nothing",
         own: &CHECK,
         restoring: &NONE,
-        by_bootstrap: &NONE,
+        choices: &NONE,
     },
     CommandRow {
         name: "jobs",
         about: "Lists the jobs of a catalogue, and which of them would be chosen",
         own: &JOBS,
         restoring: &NONE,
-        by_bootstrap: &NONE,
+        choices: &NONE,
     },
     CommandRow {
         name: "explain",
         about: "Says what a refusal number means and what to do next",
         own: &EXPLAIN,
         restoring: &NONE,
-        by_bootstrap: &NONE,
+        choices: &NONE,
     },
     CommandRow {
         name: "serve",
         about: "Runs a script from standard input, as with no command",
         own: &SERVE,
         restoring: &NONE,
-        by_bootstrap: &NONE,
+        choices: &NONE,
     },
     CommandRow {
         name: "migrate",
         about: "Makes a catalogue of version 1 one of version 2",
         own: &MIGRATE,
         restoring: &NONE,
-        by_bootstrap: &NONE,
+        choices: &NONE,
     },
 ];
 

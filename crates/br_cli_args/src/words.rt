@@ -12,7 +12,7 @@ ghost use Rattle.br_cli_args.specs.Words.{is_no_size, memory_asked};
 ghost use Rattle.br_cli_args.specs.Words.{AsksFor, MissesBy, asked, asked_by, words_asked, words_fault, words_kind};
 ghost use Rattle.br_cli_args.specs.Words.{check_asked, console_asked, drives_asked, explain_asked, extract_asked};
 ghost use Rattle.br_cli_args.specs.Words.{jobs_asked, migrate_asked, number_asked, serve_asked, serve_by, target_asked};
-ghost use Rattle.br_cli_args.specs.Words.{kind_by, kind_in, tar_target, target, target_by};
+ghost use Rattle.br_cli_args.specs.Words.{kind_by, kind_in, session_wanted, tar_target, target, target_by};
 
 use crate::byte_size::read_size;
 use crate::command_table::{error_of, program};
@@ -198,6 +198,17 @@ fn wanted_of(found: &ArgMatches<'_>) -> Wanted
     }
 }
 
+/// Returns the further wishes for the restore of a session, which has one copy of each path.
+fn session_wanted(found: &ArgMatches<'_>) -> Wanted
+    ensures { result ≡ session_wanted (rows_of (found_of found.now)) }
+{
+    Wanted {
+        copies: Copies::All,
+        gaps: gaps_of(found),
+        stops: stops_of(found),
+    }
+}
+
 /// Returns whether the files of a delivery are synced; `--sync` decides.
 fn syncs_by(is_synced: bool) -> Syncs
     ensures { result ≡ syncs_by is_synced }
@@ -329,19 +340,28 @@ fn console_found<'a>(found: &ArgMatches<'a>) -> Option<Invocation<'a>>
     ensures asked { option_map asked result ≡ console_asked (rows_of (found_of found.now)) }
     ensures drives { IfSome result HasDrives }
 {
+    let db = value_of(found, "db")?;
+    let volumes = value_of(found, "volumes")?;
+    let client = value_of(found, "client")?;
+    let fileset = value_of(found, "fileset")?;
+    let before = value_of(found, "before")?;
+    let target = target_of(found)?;
     Some(Invocation::Console(ConsoleOptions {
-        db: value_of(found, "db")?,
-        volumes: value_of(found, "volumes")?,
-        client: value_of(found, "client")?,
-        fileset: value_of(found, "fileset")?,
-        before: value_of(found, "before")?,
+        db,
+        volumes,
+        client,
+        fileset,
+        before,
         file_rows: file_rows_of(found),
-        target: target_of(found)?,
+        target,
         drives: drives_of(found)?,
         memory: memory_of(found)?,
+        wanted: session_wanted(found),
+        start: start_for(target, start_of(found))?,
         syncs: syncs_of(found),
         progress: progress_of(found),
         log: value_of(found, "log"),
+        manifest: value_of(found, "manifest"),
     }))
 }
 
@@ -577,10 +597,10 @@ fn read_by<'a>(
 /// NAME --fileset NAME --before MOMENT`, `check --bsr FILE --volumes DIR [--checksums]`, `jobs --db
 /// FILE [--client NAME] [--fileset NAME] [--before MOMENT] [--local]`, `migrate --db FILE`,
 /// `explain [N]` and `serve`. The first two also take `--into DIR` or `--tar FILE`, `--drives N`,
-/// `--sync`, `--quiet` and `--log FILE`. The first takes `--newest`, `--complete`, `--keep-going` and, with
-/// `--into`, `--resume`. The last takes `--db FILE` and `--volumes DIR`, both or neither. All that
-/// restore, and `check`, take `--memory SIZE`: bytes, or a number with K, M, G or T. No command is
-/// the same as `serve`.
+/// `--sync`, `--quiet`, `--log FILE`, `--complete`, `--keep-going` and, with `--into`, `--resume`.
+/// The first takes `--newest`, and the second `--manifest FILE`. The last takes `--db FILE` and
+/// `--volumes DIR`, both or neither. All that restore, and `check`, take `--memory SIZE`: bytes, or a
+/// number with K, M, G or T. No command is the same as `serve`.
 ///
 /// # Errors
 ///

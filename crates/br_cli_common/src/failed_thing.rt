@@ -110,7 +110,7 @@ impl Matter {
             }
             Matter::Taken(_) => "Name a file that is not there.",
             Matter::NotEmpty => {
-                "Choose an empty folder; `extract --resume` goes on with a restore that was cut off."
+                "Choose an empty folder; `--resume` goes on with a restore that was cut off."
             }
             Matter::Terminal => "Name a file, or send the stream to another program.",
             Matter::Refused(error) => next_after(error.kind()),

@@ -100,11 +100,18 @@ pub struct ConsoleOptions<'a> {
     pub drives: usize,
     /// The number of bytes of data that are held in memory.
     pub memory: u64,
+    /// A session has one copy of each path, and all copies are wanted.
+    pub wanted: Wanted,
+    /// What the target folder may hold. Other targets are new.
+    pub start: Start,
     /// Whether what goes into a folder is synced. A tar stream in a file is, at its end.
     pub syncs: Syncs,
     pub progress: Progress,
     /// The file that a log of the session is appended to, if there is one.
     pub log: Option<&'a str>,
+    /// The file that the manifest goes to, if it does not go where the answers go. What is in it is
+    /// replaced.
+    pub manifest: Option<&'a str>,
 }
 
 /// The options of `serve` over files.

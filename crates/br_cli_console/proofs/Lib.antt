@@ -1,1 +1,2 @@
 mod LoadedLaws
+mod SessionLaws

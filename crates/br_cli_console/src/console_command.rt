@@ -8,31 +8,35 @@ ghost use Rattle.br_volume.specs.HostDrives.{AreOver};
 ghost use Rattle.br_cli_console.specs.AskedJobs.{request_asked};
 ghost use Rattle.br_cli_console.specs.LoadedJobs.{AreJobsOf};
 ghost use Rattle.br_cli_target.specs.AskedTarget.{folder_asked, stream_asked};
-ghost use Rattle.br_cli_console.specs.ConsoleCommandEnding.{end_line, extent, extent_by, run_refusal, run_status, status_by};
+ghost use Rattle.br_cli_console.specs.ConsoleCommandEnding.{end_line, end_status, extent, extent_by, lines_status, put_extent, run_refusal, run_status, status_by};
 ghost use Rattle.br_cli_console.specs.ConsoleStarting.{start_number};
 ghost use Rattle.br_cli_target.specs.TarEnding.{IsShown};
-ghost use Rattle.br_cli_console.specs.ConsoleTasks.{StreamsOver};
+ghost use Rattle.br_cli_console.specs.ConsoleTasks.{Streams, tar};
 ghost use Rattle.br_cli_console.specs.declared.console_command.ConsoleStartFault.TheVariants as start;
 
 use crate::chosen_jobs::tell_chosen;
 use crate::helped_reader::{Helped, with_help};
 use crate::loaded_jobs::{ChosenFiles, jobs_in};
+use crate::session_manifest::{
+    Outputs, end_manifest, manifest_at, manifest_writer, refuse_manifest, run_session, told_by,
+};
 use br_cli_common::{BAD_STREAM, CLEAN, ConsoleOptions, Prompted, REFUSED, Target, with_prompt};
 use br_cli_progress::{Gauge, WatchedSink, WatchedWriter};
 use br_cli_target::{
-    Channel, Ending, PutExtent, ResumingSink, Settle, Streamed, TarFault, ToldOutcomes,
-    add_tar_end, end_stream, folder_of, gauge_of, lacks_volumes, log_fault, refuse_log,
-    refuse_place, restore_over, resuming_over, say_nowhere, say_stop, say_volumes, tar_into,
-    tar_output, tell_outcomes, with_watched_drives, with_watched_sink,
+    Channel, Ending, LeavingSink, PutExtent, Settle, Streamed, TarFault, ToldOutcomes, add_tar_end,
+    end_stream, folder_of, gauge_of, is_whole, lacks_volumes, leaving_over, left_out, log_fault,
+    refuse_log, refuse_place, restore_over, say_conflicts, say_files, say_nowhere, say_stop,
+    say_volumes, tar_into, tar_output, tell_others, tell_outcomes, with_watched_drives,
+    with_watched_sink,
 };
-use br_console::{ConsoleFault, ConsoleRun, End, LineVerdict, run_console};
+use br_console::{ConsoleFault, ConsoleRun, End, LineVerdict};
 use br_engine::{Flush, Restore, RestoreEnd};
 use br_history::History;
 use br_keeper::{Catalogue, CatalogueFault};
 use br_plan::{JobSelection, Request, RequestFault, read_request};
 use br_sink_folder::FolderFault;
 use br_sink_tar::TarSink;
-use br_types::{Path, Start};
+use br_types::{Path, Start, Wanted};
 use br_volume::{Drive, HostDrive};
 use std::alloc::{AllocError, Global};
 use std::fs::File;
@@ -43,46 +47,72 @@ use thiserror::Error;
 
 /// The text for an operator at a terminal before the first line.
 const GREETING: &str =
-    "Mark files with `mark NAME`, or all with `mark *`. `ls` lists, `cd NAME` goes into a folder.
-`done` restores what is marked, and `quit` restores nothing. `help` lists all commands.";
+    "Mark files with `mark NAME`, or all with `mark *`. `ls` lists, `cd NAME` goes
+into a folder. `done` restores what is marked, and `quit` restores nothing.
+`help` lists all commands.";
 
-/// Returns the exit status of a run that was not refused.
-fn status_of(run: &ConsoleRun) -> u8
-    ensures { result ≡ status_by run.now.lines run.now.end }
+/// Returns the exit status of lines.
+fn lines_status(lines: LineVerdict) -> u8
+    ensures { result ≡ lines_status lines }
 {
-    match &run.end {
-        End::Quit | End::Done(RestoreEnd::AllFiles) => match run.lines {
-            LineVerdict::AllAccepted => CLEAN,
-            LineVerdict::SomeRefused => REFUSED,
-        },
-        End::Done(RestoreEnd::SomeFaults | RestoreEnd::Stopped(_)) => REFUSED,
+    match lines {
+        LineVerdict::AllAccepted => CLEAN,
+        LineVerdict::SomeRefused => REFUSED,
     }
 }
 
-/// Appends the line of a delivery that stopped, and nothing otherwise.
-fn push_stop(text: &mut Vec<u8>, run: &ConsoleRun) -> Result<(), AllocError>
-    ensures { OnOk result (text.new.items ≡ text.old.items ++ end_line run.now.end) }
+/// Returns the exit status of a restore that left nothing out, after these lines.
+fn end_status(lines: LineVerdict, end: &RestoreEnd) -> u8
+    ensures { result ≡ end_status lines end.now }
+{
+    match end {
+        RestoreEnd::AllFiles => lines_status(lines),
+        RestoreEnd::SomeFaults | RestoreEnd::Stopped(_) => REFUSED,
+    }
+}
+
+/// Returns the exit status of a run that was not refused.
+fn status_of(run: &ConsoleRun, failed: &[Path]) -> u8
+    ensures { result ≡ status_by run.now.lines run.now.end failed.now }
+{
+    match &run.end {
+        End::Quit => lines_status(run.lines),
+        End::Done(done) if is_whole(done, failed) => end_status(run.lines, &done.end),
+        End::Done(_) => REFUSED,
+    }
+}
+
+/// Appends the lines of what is missing or left out, and of a delivery that stopped.
+fn push_end(text: &mut Vec<u8>, run: &ConsoleRun, failed: &[Path]) -> Result<(), AllocError>
+    ensures { OnOk result (text.new.items ≡ text.old.items ++ end_line run.now.end failed.now) }
 {
     match &run.end {
         End::Quit => Ok(()),
-        End::Done(end) => end.push_line(text),
+        End::Done(done) => done.push_lines(failed, text),
     }
 }
 
-/// Returns the exit status and the refusal line for this result, after a warning or without one.
+/// Returns the exit status and the lines of what is missing, left out or refused for this result,
+/// after a warning or without one. `failed` are the paths of the files at which the sink failed and
+/// which are left out.
 pub fn console_ending(
     alloc: Global,
     run: &Result<ConsoleRun, ConsoleFault>,
     is_warned: bool,
+    failed: &[Path],
 ) -> Result<Ending, AllocError>
-    ensures status { IfOk result (λ ending. ending.status ≡ run_status is_warned run.now) }
-    ensures refusal { IfOk result (λ ending. ending.refusal.items ≡ run_refusal run.now) }
+    ensures status { IfOk result (λ ending. ending.status ≡ run_status is_warned run.now failed.now) }
+    ensures refusal { IfOk result (λ ending. ending.refusal.items ≡ run_refusal run.now failed.now) }
 {
     let mut refusal = Vec::new(alloc);
     let status = match run {
         Ok(run) => {
-            push_stop(&mut refusal, run)?;
-            if is_warned { REFUSED } else { status_of(run) }
+            push_end(&mut refusal, run, failed)?;
+            if is_warned {
+                REFUSED
+            } else {
+                status_of(run, failed)
+            }
         }
         Err(ConsoleFault::Io(_) | ConsoleFault::NoEnd(_)) => BAD_STREAM,
         Err(fault) => {
@@ -93,24 +123,29 @@ pub fn console_ending(
     Ok(Ending { status, refusal })
 }
 
-/// Prints to standard error that a stream failed, if one did. Returns an error for memory.
-fn report_stream<R: Eprint>(rt: &R, fault: &ConsoleFault) -> io::Result<()> {
-    match fault {
-        ConsoleFault::Io(e) => eprintln!(rt; "brestore: standard input or output: {e}"),
-        ConsoleFault::NoEnd(e) => eprintln!(rt; "brestore: standard input or output: {e}"),
-        _ => Ok(()),
+/// Returns the streams of a session, with the file of its manifest if there is one.
+fn streams_of(rt: &HostRuntime, manifest: Option<&str>) -> Result<String, AllocError> {
+    match manifest {
+        Some(path) => format!(in rt.alloc(); "standard input or output, or {path}"),
+        None => String::from_str(rt.alloc(), "standard input or output"),
     }
 }
 
-/// Prints that a stream failed, if one did, and appends it to the log.
-fn tell_stream(rt: &HostRuntime, gauge: &Gauge<'_>, fault: &ConsoleFault) -> io::Result<()> {
-    report_stream(rt, fault)?;
+/// Prints to standard error that a stream failed, if one did, and appends it to the log.
+fn tell_stream(
+    rt: &HostRuntime,
+    gauge: &Gauge<'_>,
+    manifest: Option<&str>,
+    fault: &ConsoleFault,
+) -> io::Result<()> {
+    let streams = streams_of(rt, manifest)?;
+    let name = streams.as_str();
     match fault {
-        ConsoleFault::Io(_) | ConsoleFault::NoEnd(_) => {
-            log_fault(rt, gauge, Some("standard input or output"), fault)
-        }
-        _ => Ok(()),
+        ConsoleFault::Io(e) => eprintln!(rt; "brestore: {name}: {e}")?,
+        ConsoleFault::NoEnd(e) => eprintln!(rt; "brestore: {name}: {e}")?,
+        _ => return Ok(()),
     }
+    log_fault(rt, gauge, Some(name), fault)
 }
 
 /// Reports to a terminal, unless it is to be quiet, that nothing was restored.
@@ -121,19 +156,21 @@ fn say_quit(gauge: &Gauge<'_>) -> io::Result<()> {
     Ok(())
 }
 
-/// Reports to a terminal and the log why the delivery stopped, if it did, or that nothing was
-/// written. The first of the paths is that of a file at which the sink failed.
+/// Reports to a terminal and the log why files are left out and why the delivery stopped, or that
+/// nothing was written. `failed` are the paths of the files at which the sink failed.
 fn say_end(
     rt: &HostRuntime,
     gauge: &Gauge<'_>,
     target: Target<'_>,
     end: &End,
-    failed: Option<&Path>,
+    failed: &[Path],
 ) -> io::Result<()> {
     match end {
         End::Quit => say_quit(gauge),
-        End::Done(end) => {
-            say_stop(rt, gauge, target, end, failed)?;
+        End::Done(done) => {
+            say_conflicts(rt, gauge, &done.left)?;
+            say_files(rt, gauge, target, failed)?;
+            say_stop(rt, gauge, target, &done.end, done.stopped_at.as_ref())?;
             say_nowhere(gauge, target)
         }
     }
@@ -145,7 +182,7 @@ fn report(
     rt: &HostRuntime,
     gauge: &Gauge<'_>,
     given: &ConsoleOptions<'_>,
-    noted: (&ToldOutcomes<'_>, Option<&Path>),
+    noted: (&ToldOutcomes<'_>, &[Path]),
     run: &Result<ConsoleRun, ConsoleFault>,
     ending: &Ending,
 ) -> io::Result<u8>
@@ -153,7 +190,7 @@ fn report(
 {
     let (told, failed) = noted;
     if let Err(fault) = run {
-        tell_stream(rt, gauge, fault)?;
+        tell_stream(rt, gauge, given.manifest, fault)?;
     }
     gauge.log_refusals(&ending.refusal);
     let status = ending.print(rt)?;
@@ -244,11 +281,12 @@ impl ConsoleStartFault {
     }
 }
 
-/// The jobs of a catalogue, and which of them to choose.
+/// The jobs of a catalogue, which of them to choose, and what is wanted besides the plain restore.
 #[derive(Drop)]
 pub struct ConsoleJobs {
     history: History,
     request: Request,
+    wanted: Wanted,
 }
 
 impl ConsoleJobs {
@@ -273,21 +311,33 @@ fn request_of(alloc: Global, given: &ConsoleOptions<'_>) -> Result<Request, Requ
 
 /// Makes what a session into a folder, or without a target, needs before it reads a line. Client
 /// and file set (2), moment (52), the folder (81), and the catalogue (45, 47) are tested in this
-/// order.
-pub fn set_up_console<'r, C: Catalogue>(
+/// order. The files that are put are reported to the gauge.
+pub fn set_up_console<'g, 'r, C: Catalogue>(
     rt: &'r HostRuntime,
     catalogue: &C,
+    gauge: &'g Gauge<'r>,
     given: &ConsoleOptions<'_>,
-) -> Result<ConsoleSetup<'r, ResumingSink<'r>>, ConsoleStartFault>
+) -> Result<ConsoleSetup<'r, LeavingSink<'g, 'r>>, ConsoleStartFault>
     ensures asked { IfOk result (λ setup. request_asked given.now ≡ Ok setup.0.request) }
-    ensures into { IfOk result (λ setup. option_map (λ s. s.folder.path) setup.1.sink ≡ folder_asked given.now.target) }
+    ensures wanted { IfOk result (λ setup. setup.0.wanted ≡ given.now.wanted) }
+    ensures into { IfOk result (λ setup. option_map (λ s. s.inner.inner.folder.path) setup.1.sink ≡ folder_asked given.now.target) }
+    ensures start { IfOk result (λ setup. IfSome setup.1.sink (λ s. s.inner.inner.start ≡ given.now.start)) }
+    ensures stops { IfOk result (λ setup. IfSome setup.1.sink (λ s. s.stops ≡ given.now.wanted.stops)) }
     ensures jobs { IfOk result (λ setup. AreJobsOf (C.jobs_at catalogue.now given.now.db.now) given.now.file_rows setup.0) }
     ensures memory { IfOk result (λ setup. setup.1.budget.room ≡ given.now.memory) }
     ensures drives { IfOk result (λ setup. length setup.1.drives.items ≡ given.now.drives) }
     ensures volumes { IfOk result (λ setup. AreOver given.now.volumes.now setup.1.drives.items) }
 {
     let request = request_of(rt.alloc(), given)?;
-    let sink = resuming_over(rt, Start::Empty, given.syncs, folder_of(given.target))?;
+    let into = folder_of(given.target);
+    let sink = leaving_over(
+        rt,
+        gauge,
+        given.wanted.stops,
+        given.start,
+        given.syncs,
+        into,
+    )?;
     set_up_over(rt, catalogue, given, request, sink)
 }
 
@@ -300,6 +350,7 @@ fn set_up_over<'r, C: Catalogue, S: Drop>(
     sink: Option<S>,
 ) -> Result<ConsoleSetup<'r, S>, ConsoleStartFault>
     ensures request { IfOk result (λ setup. setup.0.request ≡ request) }
+    ensures wanted { IfOk result (λ setup. setup.0.wanted ≡ given.now.wanted) }
     ensures sink { IfOk result (λ setup. setup.1.sink ≡ sink) }
     ensures jobs { IfOk result (λ setup. AreJobsOf (C.jobs_at catalogue.now given.now.db.now) given.now.file_rows setup.0) }
     ensures memory { IfOk result (λ setup. setup.1.budget.room ≡ given.now.memory) }
@@ -309,7 +360,12 @@ fn set_up_over<'r, C: Catalogue, S: Drop>(
     let needs = ChosenFiles { request: &request };
     let history = jobs_in(rt, catalogue, given.db, given.file_rows, &needs)?;
     let restore = restore_over(rt, given.volumes, given.drives, given.memory, sink)?;
-    Ok((ConsoleJobs { history, request }, restore))
+    let jobs = ConsoleJobs {
+        history,
+        request,
+        wanted: given.wanted,
+    };
+    Ok((jobs, restore))
 }
 
 /// Returns the number of marked files that a run put into its sink.
@@ -327,27 +383,46 @@ fn extent_by(end: &End) -> PutExtent
     ensures { result ≡ extent_by end.now }
 {
     match end {
-        End::Quit | End::Done(RestoreEnd::AllFiles | RestoreEnd::SomeFaults) => PutExtent::All,
-        End::Done(RestoreEnd::Stopped(_)) => PutExtent::Part,
+        End::Quit => PutExtent::All,
+        End::Done(done) => put_extent(&done.end),
+    }
+}
+
+/// Returns the same from the end of a restore.
+fn put_extent(end: &RestoreEnd) -> PutExtent
+    ensures { result ≡ put_extent end.now }
+{
+    match end {
+        RestoreEnd::AllFiles | RestoreEnd::SomeFaults => PutExtent::All,
+        RestoreEnd::Stopped(_) => PutExtent::Part,
     }
 }
 
 /// Runs a session whose sink writes a tar stream, and ends the stream if all files were put.
-fn console_stream<R: BufRead + Drop, D: Drive + Send, W: Flush + Drop, T: Settle + Drop>(
+fn console_stream<
+    R: BufRead + Drop,
+    D: Drive + Send,
+    W: Flush + Drop,
+    M: Flush + Drop,
+    T: Settle + Drop,
+>(
     threads: &(impl Threads + Wait + Sync),
-    asked: &JobSelection<'_>,
+    order: (&JobSelection<'_>, Wanted),
     restore: &mut Restore<D, WatchedSink<'_, '_, TarSink<T>>>,
     reader: &mut R,
-    writer: &mut W,
+    out: &mut Outputs<W, M>,
 ) -> Streamed<Result<ConsoleRun, ConsoleFault>, T>
     requires drives { AreDrives restore.old.drives.items }
-    requires shown { W.is_flushed writer.old }
+    requires shown { W.is_flushed out.old.answers }
+    requires fresh { IfSome out.old.manifest M.is_flushed }
     requires sink { IsSome restore.old.sink }
-    ensures streams { StreamsOver (R.remaining reader.old) D.Drive W.Write T.contents asked.now (restore.old, writer.old) (restore.new, writer.new) result }
-    ensures flushed { OnOk result.run (W.is_flushed writer.new) }
+    ensures streams { Streams order.entry (R.remaining reader.old)
+        (tar D.Drive W.Write M.Write (restore.old, out.old) (restore.new, out.new)) T.contents result }
+    ensures flushed { OnOk result.run (W.is_flushed out.new.answers) }
+    ensures apart { OnOk result.run (IfSome out.new.manifest M.is_flushed) }
     ensures shown { IfSome result.writer (λ w. IsShown (T.is_flushed w) result.end) }
 {
-    let run = run_console(threads, restore, asked, reader, writer);
+    let run = run_session(threads, restore, order, reader, out);
     let (writer, end) = end_stream(restore.sink.take(), extent_of(&run));
     Streamed { run, end, writer }
 }
@@ -362,11 +437,19 @@ fn lines_of<'a, 'j, 'r>(
     Ok(BufReader::new(rt.alloc(), with_help(rt, asked, input))?)
 }
 
-/// Returns the path of the first file that a watched sink failed at, if it did.
-fn failed_at<'s, S>(sink: &'s Option<WatchedSink<'_, '_, S>>) -> Option<&'s Path> {
-    match sink {
-        Some(sink) => sink.failed().first(),
-        None => None,
+/// Prints what else is in the folder of a resumed restore, if the session restored something.
+fn name_others(
+    rt: &HostRuntime,
+    gauge: &Gauge<'_>,
+    given: &ConsoleOptions<'_>,
+    run: &Result<ConsoleRun, ConsoleFault>,
+) -> io::Result<()> {
+    let (Start::Resumed, Target::Folder(folder), Ok(run)) = (given.start, given.target, run) else {
+        return Ok(());
+    };
+    match &run.end {
+        End::Done(done) => tell_others(rt, gauge, folder, &done.outcomes),
+        End::Quit => Ok(()),
     }
 }
 
@@ -388,33 +471,40 @@ fn refuse_setup<C: Catalogue>(
     Ok(status)
 }
 
-/// Restores by lines into a folder, or prints the manifest alone if there is none.
-fn restore_into<C: Catalogue>(
-    rt: &HostRuntime,
+/// Restores by lines into a folder, or prints the manifest alone if there is none. The manifest goes to
+/// its file if there is one.
+fn restore_into<'r, C: Catalogue>(
+    rt: &'r HostRuntime,
     threads: &(impl Threads + Wait + Sync),
     catalogue: &C,
-    gauge: &Gauge<'_>,
+    gauge: &'r Gauge<'r>,
     given: &ConsoleOptions<'_>,
+    file: Option<File>,
 ) -> io::Result<u8>
     requires few { AreFew given.now.drives }
     requires asked { stream_asked given.now.target ≡ None }
 {
     let writer = BufWriter::new(rt.alloc(), io::writer(rt))?;
-    let (jobs, restore) = match set_up_console(rt, catalogue, given) {
+    let (jobs, restore) = match set_up_console(rt, catalogue, gauge, given) {
         Ok(setup) => setup,
         Err(fault) => return refuse_setup(rt, catalogue, gauge, given, &fault),
     };
-    let mut restore = with_watched_sink(with_watched_drives(restore, gauge)?, gauge);
+    let mut restore = with_watched_drives(restore, gauge)?;
     let asked = jobs.selection(rt.alloc());
     let is_warned = tell_chosen(rt, &asked, given.volumes)?;
     let mut reader = lines_of(rt, &asked)?;
-    let mut writer = WatchedWriter::new(writer, gauge);
-    let run = run_console(threads, &mut restore, &asked, &mut reader, &mut writer);
+    let manifest = manifest_writer(rt, gauge, file)?;
+    let answers = WatchedWriter::new(writer, gauge);
+    let mut out = Outputs { answers, manifest };
+    let order = (&asked, jobs.wanted);
+    let run = run_session(threads, &mut restore, order, &mut reader, &mut out);
     gauge.clear();
-    let ending = console_ending(rt.alloc(), &run, is_warned)?;
-    let told = ToldOutcomes::of_session(&writer);
-    let failed = failed_at(&restore.sink);
-    report(rt, gauge, given, (&told, failed), &run, &ending)
+    name_others(rt, gauge, given, &run)?;
+    let failed = left_out(&restore.sink);
+    let ending = console_ending(rt.alloc(), &run, is_warned, failed)?;
+    let told = told_by(&out);
+    let status = report(rt, gauge, given, (&told, failed), &run, &ending)?;
+    end_manifest(rt, gauge, given.manifest, &mut out.manifest, status)
 }
 
 /// Makes what a session needs before it reads a line, to deliver into a new file as a tar stream.
@@ -426,6 +516,7 @@ fn set_up_tar_file<'r, C: Catalogue>(
     path: &str,
 ) -> Result<ConsoleSetup<'r, TarSink<BufWriter<File>>>, ConsoleStartFault>
     ensures asked { IfOk result (λ setup. request_asked given.now ≡ Ok setup.0.request) }
+    ensures wanted { IfOk result (λ setup. setup.0.wanted ≡ given.now.wanted) }
     ensures sink { IfOk result (λ setup. IsSome setup.1.sink) }
     ensures jobs { IfOk result (λ setup. AreJobsOf (C.jobs_at catalogue.now given.now.db.now) given.now.file_rows setup.0) }
     ensures memory { IfOk result (λ setup. setup.1.budget.room ≡ given.now.memory) }
@@ -445,6 +536,7 @@ fn set_up_tar_output<'r, C: Catalogue>(
     given: &ConsoleOptions<'_>,
 ) -> Result<ConsoleSetup<'r, TarSink<BufWriter<Printer<'r, HostRuntime>>>>, ConsoleStartFault>
     ensures asked { IfOk result (λ setup. request_asked given.now ≡ Ok setup.0.request) }
+    ensures wanted { IfOk result (λ setup. setup.0.wanted ≡ given.now.wanted) }
     ensures sink { IfOk result (λ setup. IsSome setup.1.sink) }
     ensures jobs { IfOk result (λ setup. AreJobsOf (C.jobs_at catalogue.now given.now.db.now) given.now.file_rows setup.0) }
     ensures memory { IfOk result (λ setup. setup.1.budget.room ≡ given.now.memory) }
@@ -457,13 +549,15 @@ fn set_up_tar_output<'r, C: Catalogue>(
 }
 
 /// Restores by lines into the tar stream that was set up, with the answers to its writer: standard output,
-/// or something else if the stream goes there. Returns the exit status.
+/// or something else if the stream goes there. The manifest goes to its file if there is one. Returns the
+/// exit status.
 fn restore_onto<'r, T: Channel + Drop, W: Channel + Drop>(
     threads: &(impl Threads + Wait + Sync),
     watch: (&'r HostRuntime, &'r Gauge<'r>),
     given: &ConsoleOptions<'_>,
     setup: ConsoleSetup<'r, TarSink<BufWriter<T>>>,
     answers: BufWriter<W>,
+    file: Option<File>,
 ) -> io::Result<u8>
     requires few { AreFew (length setup.1.drives.items) }
     requires sink { IsSome setup.1.sink }
@@ -476,30 +570,36 @@ fn restore_onto<'r, T: Channel + Drop, W: Channel + Drop>(
     let asked = jobs.selection(rt.alloc());
     let is_warned = tell_chosen(rt, &asked, given.volumes)?;
     let mut reader = lines_of(rt, &asked)?;
-    let mut writer = WatchedWriter::new(answers, gauge);
-    let stream = console_stream(threads, &asked, &mut restore, &mut reader, &mut writer);
+    let manifest = manifest_writer(rt, gauge, file)?;
+    let answers = WatchedWriter::new(answers, gauge);
+    let mut out = Outputs { answers, manifest };
+    let order = (&asked, jobs.wanted);
+    let stream = console_stream(threads, order, &mut restore, &mut reader, &mut out);
     gauge.clear();
-    let mut ending = console_ending(rt.alloc(), &stream.run, is_warned)?;
+    let mut ending = console_ending(rt.alloc(), &stream.run, is_warned, &[])?;
     add_tar_end(&mut ending, stream.end)?;
-    let told = ToldOutcomes::of_session(&writer);
-    report(rt, gauge, given, (&told, None), &stream.run, &ending)
+    let told = told_by(&out);
+    let status = report(rt, gauge, given, (&told, &[]), &stream.run, &ending)?;
+    end_manifest(rt, gauge, given.manifest, &mut out.manifest, status)
 }
 
 /// Reads lines of standard input and answers them on standard output, over the jobs of a client's file set
 /// before a moment in a catalogue. After `done` prints the bootstrap and the manifest, and puts the restored
 /// files where they are to go: into a folder, or as a tar stream into a file or to standard output. In the
-/// last case all that is printed goes to standard error. What is refused of a line is part of the answers;
-/// any other refusal goes to standard error, and so does the stop of a delivery.
+/// last case all that is printed goes to standard error. If a file is given for the manifest, the manifest
+/// goes there. What is refused of a line is part of the answers; any other refusal goes to standard error,
+/// and so does the stop of a delivery.
 ///
-/// Client and file set (2), moment (52), the target (81: a folder has to exist and be empty, a file
-/// must not exist), and the catalogue (45, 47) are tested in this order before a line is read. The
-/// manifest is printed before any file is put.
+/// The log and the file of the manifest are opened first. Client and file set (2), moment (52), the target
+/// (81: a folder has to exist and be empty unless the restore is resumed, a file must not exist), and the
+/// catalogue (45, 47) are tested in this order before a line is read. The manifest is written before any
+/// file is put.
 ///
 /// A line on standard error warns of each chosen job whose files are gone from the catalogue.
 ///
 /// Returns the exit status: 0 if nothing was refused and each outcome is a file; 1 if something was
-/// refused, some outcome is not a file, or there was a warning; 3 if the log could not be written, or standard input or output
-/// failed.
+/// refused, left out or is reported as missing, some outcome is not a file, or there was a warning; 3 if
+/// the log or the manifest could not be written, or standard input or output failed.
 ///
 /// # Errors
 ///
@@ -514,15 +614,16 @@ pub fn restore_marked<C: Catalogue>(
 {
     match gauge_of(rt, given.volumes, given.target, given.progress, given.log) {
         Ok(gauge) => {
-            let status = restore_told(rt, threads, catalogue, &gauge, given)?;
+            let status = restore_watched(rt, threads, catalogue, &gauge, given)?;
             gauge.end_log(status)
         }
         Err(error) => refuse_log(rt, given.log, error),
     }
 }
 
-/// Restores as `restore_marked`, with what watches the restore.
-fn restore_told<C: Catalogue>(
+/// Restores as `restore_marked`, with what watches the restore. The file of the manifest is opened
+/// first.
+fn restore_watched<C: Catalogue>(
     rt: &HostRuntime,
     threads: &(impl Threads + Wait + Sync),
     catalogue: &C,
@@ -531,21 +632,39 @@ fn restore_told<C: Catalogue>(
 ) -> io::Result<u8>
     requires few { AreFew given.now.drives }
 {
+    match manifest_at(rt, given.manifest) {
+        Ok(file) => restore_told(rt, threads, catalogue, gauge, given, file),
+        Err(error) => refuse_manifest(rt, gauge, given.manifest, error),
+    }
+}
+
+/// Restores as `restore_marked`, with what watches the restore and the file of the manifest, if it has
+/// one.
+fn restore_told<C: Catalogue>(
+    rt: &HostRuntime,
+    threads: &(impl Threads + Wait + Sync),
+    catalogue: &C,
+    gauge: &Gauge<'_>,
+    given: &ConsoleOptions<'_>,
+    file: Option<File>,
+) -> io::Result<u8>
+    requires few { AreFew given.now.drives }
+{
     let watch = (rt, gauge);
     match given.target {
-        Target::Nowhere => restore_into(rt, threads, catalogue, gauge, given),
-        Target::Folder(_) => restore_into(rt, threads, catalogue, gauge, given),
+        Target::Nowhere => restore_into(rt, threads, catalogue, gauge, given, file),
+        Target::Folder(_) => restore_into(rt, threads, catalogue, gauge, given, file),
         Target::TarFile(path) => {
             let answers = BufWriter::new(rt.alloc(), io::writer(rt))?;
             match set_up_tar_file(rt, catalogue, given, path) {
-                Ok(setup) => restore_onto(threads, watch, given, setup, answers),
+                Ok(setup) => restore_onto(threads, watch, given, setup, answers, file),
                 Err(fault) => refuse_setup(rt, catalogue, gauge, given, &fault),
             }
         }
         Target::TarOutput => {
             let answers = BufWriter::new(rt.alloc(), rt.stderr())?;
             match set_up_tar_output(rt, catalogue, given) {
-                Ok(setup) => restore_onto(threads, watch, given, setup, answers),
+                Ok(setup) => restore_onto(threads, watch, given, setup, answers, file),
                 Err(fault) => refuse_setup(rt, catalogue, gauge, given, &fault),
             }
         }

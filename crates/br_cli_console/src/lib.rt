@@ -16,6 +16,7 @@ mod helped_reader;
 mod jobs_command;
 mod loaded_jobs;
 mod local_command;
+mod session_manifest;
 mod time_zone;
 mod working_folder;
 

@@ -8,3 +8,4 @@ pub mod OwnHits
 pub mod AttributePaths
 pub mod Origins
 pub mod Nothing
+pub mod WholeRestore

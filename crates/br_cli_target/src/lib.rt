@@ -21,6 +21,7 @@ mod target_tar;
 mod told_outcomes;
 mod told_target;
 mod watched_restore;
+mod whole_restore;
 
 pub use absent_count::count_absent;
 pub use advice_lines::{push_absent, push_older, push_origin};
@@ -38,3 +39,4 @@ pub use told_target::{
     say_stop, tell_others,
 };
 pub use watched_restore::{gauge_of, refuse_log};
+pub use whole_restore::{is_whole, left_out};

@@ -166,7 +166,7 @@ pub fn say_stop(
         (RestoreEnd::Stopped(stop), Some(path)) if gauge.is_watching() => match stop.cause() {
             RestoreCause::Sink(StopCause::Fault) => say_failure(rt, gauge, target, path),
             RestoreCause::Sink(StopCause::Conflict) => {
-                say_conflict(rt, gauge, path, "`extract --keep-going` leaves it out.")
+                say_conflict(rt, gauge, path, "`--keep-going` leaves it out.")
             }
             RestoreCause::Changed => say_changed(rt, gauge, path),
             RestoreCause::Sink(StopCause::Memory) | RestoreCause::NoDriveLeft => Ok(()),

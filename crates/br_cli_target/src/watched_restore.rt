@@ -29,8 +29,8 @@ pub fn gauge_of<'r>(
     Ok(gauge.with_log(log))
 }
 
-/// Prints to standard error that the file of a log can't be opened. Returns the exit status. If
-/// memory ran out, returns the error.
+/// Prints to standard error that the file of a log, or of a manifest, failed. Returns the exit
+/// status. If memory ran out, returns the error.
 pub fn refuse_log(rt: &HostRuntime, log: Option<&str>, error: io::Error) -> io::Result<u8>
     ensures { IfOk result (λ status. status ≡ 3) }
 {

@@ -26,24 +26,23 @@ use Rattle.br_plan.specs.declared.fault.PlanFault.TheVariants as planning
 use Rattle.br_pool.specs.Fault as pool
 use Rattle.br_tree.specs.Marking.{Marking, console_at, unmarked}
 use Rattle.br_mark.specs.Seen.{Situation}
-use Rattle.br_engine.specs.Restoring.{AllStand, NoneStand, Told, restored_files}
+use Rattle.br_engine.specs.Restoring.{NoneStand, Told, restored_files}
 use Rattle.br_engine.specs.Fault as engine
 use Rattle.br_engine.specs.Outputs.{EndTells, InSink, are_files}
-use Rattle.br_engine.specs.Extracting.{OverVolumes, Said}
-use Rattle.br_engine.specs.Delivering.{Delivers}
-use Rattle.br_engine.specs.Restores.{Change, Restores}
-use Rattle.br_engine.specs.WantedOutcomes.{plain}
+use Rattle.br_engine.specs.Extracting.{OverVolumes}
+use Rattle.br_engine.specs.Restores.{Change, Extracts, Restores}
+use Rattle.br_engine.specs.WantedOutcomes.{reported}
 use Rattle.br_engine.specs.declared.extracted.Extracted.{Extracted}
 use Rattle.br_engine.specs.declared.restore_order.RestoreOrder.{RestoreOrder}
-use Rattle.br_engine.proofs.RestoreLaws.{by_plain_order, ended, plain_delivers}
+use Rattle.br_types.specs.declared.wanted.Wanted.{Wanted}
 use Rattle.br_engine.specs.declared.restore_end.RestoreEnd.{RestoreEnd}
 use Rattle.br_engine.specs.declared.restore_end.RestoreEnd.TheVariants as restore
 use Rattle.br_engine.specs.declared.fault.ExtractFault.{ExtractFault}
 use Rattle.br_engine.specs.declared.fault.ExtractFault.TheVariants as extract
 use Rattle.br_console.specs.ConsoleFault.{Refusal, OfPlan, OfPiece, EndlessAfterAll, IsBrokenOff, IsNoPiece, cause, fault_number}
-use Rattle.br_console.specs.ConsoleEnding.{EndIs, are_accepted, is_done}
+use Rattle.br_console.specs.ConsoleEnding.{EndIs, IsWhole, TellsMissing, are_accepted, is_done}
 use Rattle.br_console.specs.Talking.{are_answered, SessionOver, LeavesOver}
-use Rattle.br_console.specs.Running.{opening, begun, with_files, with_marks, with_plan, over_volumes, run_from, console_run, Answer, BecomesFault, Begins, BeginsOver, Begun, NoneStandForPlan, RefusesPlan, RefusesRun, RestoresOver, RestoresPlan, RunsOver, StopsAt, TellsOver, WritesPlan}
+use Rattle.br_console.specs.Running.{opening, begun, with_files, with_marks, with_plan, over_volumes, run_from, console_run, Answer, BecomesFault, Begins, BeginsOver, Begun, MissingOver, NoneStandForPlan, RefusesPlan, RefusesRun, RestoresOver, RestoresPlan, RunsOver, StopsAt, TellsOver, WritesPlan}
 use Rattle.br_console.specs.declared.console_fault.ConsoleFault.{ConsoleFault}
 use Rattle.br_console.specs.declared.console_fault.ConsoleFault.TheVariants as fault
 use Rattle.br_console.specs.declared.ending.LineVerdict.{LineVerdict}
@@ -253,26 +252,34 @@ piece_is (Some e) (Err why) h = go h
     go : ◌≡◌ {A = Result (List Restored) engine.Refusal} (Err (engine.OfPiece why)) (Err (engine.OfPiece e)) → ◌≡◌ {A = Result (List Restored) Refusal} (Err (OfPiece why)) (Err (OfPiece e))
     go p = cc
 
--- a plain restore of the bootstrap of a plan delivers the planned files
-pub by_plan : (order : RestoreOrder) (seen : Change) (result : Result Extracted ExtractFault) (plan : Plan) (groups : List Group) (names : Names)
-    → order.asked.bootstrap.now ≡ groups → order.names ≡ Some names → order.wanted ≡ plain → groups ≡ plan.groups → planned_in names ≡ plan.names → Restores order seen result
-    → Delivers (λ holds. OverVolumes seen.old.told seen.new.told plan.groups (Some plan.names) holds) seen.old.written seen.new.written seen.old.has seen.new.has (ended result)
-by_plan order seen result plan groups names asked named is same alike h =
-    let over : List Group → List Planned → (Said → Type 0) = λ gs ns holds. OverVolumes seen.old.told seen.new.told gs (Some ns) holds in
-    let delivers : (Said → Type 0) → Type 0 = λ P. Delivers P seen.old.written seen.new.written seen.old.has seen.new.has (ended result) in
-    subst (λ (gs : List Group). delivers (over gs plan.names)) same
-    (subst (λ (ns : List Planned). delivers (over groups ns)) alike
-    (plain_delivers (over groups (planned_in names)) (λ rs lines. lines ≡ []) seen.old.written seen.new.written seen.old.has seen.new.has result
-    (by_plain_order order seen result groups (Some names) asked named is h)))
+-- what a plan gives is restored as wanted
+abbrev pub ExtractsPlan : Wanted → Told → Told → Option (List ℕ) → Option (List ℕ) → InSink → InSink → Plan → Result Extracted ExtractFault → Type 0
+ExtractsPlan wanted earlier later before after had has plan result =
+    Extracts wanted (λ holds. OverVolumes earlier later plan.groups (Some plan.names) holds) (λ rs lines. lines ≡ reported wanted.gaps plan.groups [] rs) before after had has result
 
-module _ (earlier later : Told) (before after : Option (List ℕ)) (had has : InSink) (plan : Plan) where
-  pub plan_restored : (end : RestoreEnd) → Delivers (λ holds. OverVolumes earlier later plan.groups (Some plan.names) holds) before after had has (Ok end)
-      → RestoresPlan earlier later before after had has plan (Ok end)
-  plan_restored end h = (h.0, (λ volumes stands. files_are (restored_files plan.groups (Some plan.names) volumes) h.0 (h.1.0 volumes stands)), h.1.1, h.2)
+-- a restore by the order of a plan does so
+pub by_plan : (order : RestoreOrder) (seen : Change) (result : Result Extracted ExtractFault) (plan : Plan) (groups : List Group) (names : Names) (wanted : Wanted)
+    → order.asked.bootstrap.now ≡ groups → order.asked.counts.now ≡ [] → order.names ≡ Some names → order.wanted ≡ wanted → groups ≡ plan.groups → planned_in names ≡ plan.names
+    → Restores order seen result
+    → ExtractsPlan wanted seen.old.told seen.new.told seen.old.written seen.new.written seen.old.has seen.new.has plan result
+by_plan order seen result plan groups names wanted asked counted named is same alike h =
+    let extracts : Wanted → Option (List Planned) → List Group → List (Option ℕ) → Type 0 = λ w ns gs cs.
+    Extracts w (λ holds. OverVolumes seen.old.told seen.new.told gs ns holds) (λ rs lines. lines ≡ reported w.gaps gs cs rs) seen.old.written seen.new.written seen.old.has seen.new.has
+    result in
+    subst (λ (w : Wanted). extracts w (Some plan.names) plan.groups []) is
+    (subst (λ (gs : List Group). extracts order.wanted (Some plan.names) gs []) (asked ∙ same)
+    (subst (λ (cs : List (Option ℕ)). extracts order.wanted (Some plan.names) order.asked.bootstrap.now cs) counted
+    (subst (λ (ns : List Planned). extracts order.wanted (Some ns) order.asked.bootstrap.now order.asked.counts.now) alike
+    (subst (λ (ns : Option Names). extracts order.wanted (option_map planned_in ns) order.asked.bootstrap.now order.asked.counts.now) named h))))
+
+module _ (wanted : Wanted) (earlier later : Told) (before after : Option (List ℕ)) (had has : InSink) (plan : Plan) where
+  pub plan_restored : (done : Extracted) → ExtractsPlan wanted earlier later before after had has plan (Ok done)
+      → RestoresPlan wanted earlier later before after had has plan (Ok done)
+  plan_restored done h = (h.0, (λ volumes stands. files_are (restored_files plan.groups (Some plan.names) volumes) h.0 (h.1.0 volumes stands)), h.1.1, (h.2, h.3, h.5), h.4)
 
   pub plan_refused : (e : ExtractFault) (why : ConsoleFault) → BecomesFault e why
-      → Delivers (λ holds. OverVolumes earlier later plan.groups (Some plan.names) holds) before after had has (Err e)
-      → RestoresPlan earlier later before after had has plan (Err why)
+      → ExtractsPlan wanted earlier later before after had has plan (Err e)
+      → RestoresPlan wanted earlier later before after had has plan (Err why)
   plan_refused extract.Memory why is h = rw is ((λ volumes stands. tt), h.1, h.2)
   plan_refused (extract.Bootstrap e) why is h = absurd is
   plan_refused (extract.Piece e) why is h =
@@ -301,11 +308,9 @@ change_stays (extract.NoEnd turns) why is h = absurd is
 
 -- there are no volumes for the bootstrap of a plan
 pub none_planned : (known : Option (List ℕ)) (earlier later : Told) (before now : Option (List ℕ)) (history : List JobRows) (q : Request) (lines : LineVerdict) (plan : Plan)
-    (asked groups : List Group) → BeginsOver known before now history q (Ok (lines, Some plan)) → asked ≡ groups → groups ≡ plan.groups → NoneStand earlier later asked
-    → NoneStandForPlan known earlier later history q
-none_planned None earlier later before now history q lines plan asked groups begins is same none = tt
-none_planned (Some text) earlier later before now history q lines plan asked groups begins is same none = λ volumes stands.
-    none volumes (subst (λ (gs : List Group). AllStand earlier later (pieces_of gs) volumes) (sym (is ∙ same)) (stands plan begins.1))
+    → BeginsOver known before now history q (Ok (lines, Some plan)) → NoneStand earlier later plan.groups → NoneStandForPlan known earlier later history q
+none_planned None earlier later before now history q lines plan begins none = tt
+none_planned (Some text) earlier later before now history q lines plan begins none = λ volumes stands. none volumes (stands plan begins.1)
 
 -- nor does it say that the lines have no end
 pub unplanned_has_end : (now after : Option (List ℕ)) (expected : Result Plan ℕ) (why : ConsoleFault) → WritesPlan now after expected (Err why) → EndlessAfterAll why
@@ -376,24 +381,27 @@ runs_undone (Some text) earlier later before after history q lines begins = λ v
     (record { is_clean = are_accepted lines; restored = None }, ap (λ (c : Bool). Ok (record { is_clean = c; restored = None })) begins.0, (refl, tt), begins.2)
 
 -- the end says if each outcome is a file
-end_is : (end : RestoreEnd) (rs : List Restored) → EndTells end rs → EndIs (Done end) (Some (are_files rs))
-end_is restore.AllFiles rs h = h
-end_is restore.SomeFaults rs h = h
-end_is (restore.Stopped stop) rs h = tt
+end_is : (done : Extracted) (rs : List Restored) → EndTells done.end rs → EndIs (Done done) (Some (are_files rs))
+end_is done rs h = go done.end h
+  where
+    go : (end : RestoreEnd) → EndTells end rs → IsWhole end (are_files rs)
+    go restore.AllFiles t = t
+    go restore.SomeFaults t = t
+    go (restore.Stopped stop) t = tt
 
 -- the manifest after the bootstrap
-pub runs_restored : (known : Option (List ℕ)) (earlier later : Told) (before now after : Option (List ℕ)) (had has : InSink) (history : List JobRows) (q : Request) (lines : LineVerdict) (plan : Plan)
-    (end : RestoreEnd) → BeginsOver known before now history q (Ok (lines, Some plan)) → RestoresPlan earlier later now after had has plan (Ok end)
-    → RunsOver known earlier later before after history q (Ok (record { lines = lines; end = Done end }))
+pub runs_restored : (known : Option (List ℕ)) (wanted : Wanted) (earlier later : Told) (before now after : Option (List ℕ)) (had has : InSink) (history : List JobRows) (q : Request) (lines : LineVerdict) (plan : Plan)
+    (done : Extracted) → BeginsOver known before now history q (Ok (lines, Some plan)) → RestoresPlan wanted earlier later now after had has plan (Ok done)
+    → RunsOver known earlier later before after history q (Ok (record { lines = lines; end = Done done }))
 unfolding console_run
-runs_restored None earlier later before now after had has history q lines plan end begins made = tt
-runs_restored (Some text) earlier later before now after had has history q lines plan end begins made = λ volumes stands.
+runs_restored None wanted earlier later before now after had has history q lines plan done begins made = tt
+runs_restored (Some text) wanted earlier later before now after had has history q lines plan done begins made = λ volumes stands.
     let rs : List Restored = made.0 in
     let files : restored_files plan.groups (Some plan.names) volumes ≡ Ok rs = made.1 volumes (stands plan begins.1) in
     rw (begins.1, files) (
       record { is_clean = are_accepted lines; restored = Some (are_files rs) },
       ap (λ (c : Bool). Ok (record { is_clean = c; restored = Some (are_files rs) })) begins.0,
-      (refl, end_is end rs made.3.0),
+      (refl, end_is done rs made.3.0),
       Appends-trans before now after (begun history q text).text (manifest rs) begins.2 made.2,
     )
 
@@ -406,12 +414,12 @@ stopped text clean (Err e) why h = (go h, refl)
     go : ◌≡◌ {A = Result (List Restored) Refusal} (Err (OfPiece e)) (Err why) → ◌≡◌ {A = Result Answer Refusal} (Err (OfPiece e)) (Err why)
     go p = cc
 
-pub runs_stopped : (known : Option (List ℕ)) (earlier later : Told) (before now after : Option (List ℕ)) (had has : InSink) (history : List JobRows) (q : Request) (lines : LineVerdict) (plan : Plan)
-    (why : ConsoleFault) → BeginsOver known before now history q (Ok (lines, Some plan)) → RestoresPlan earlier later now after had has plan (Err why)
+pub runs_stopped : (known : Option (List ℕ)) (wanted : Wanted) (earlier later : Told) (before now after : Option (List ℕ)) (had has : InSink) (history : List JobRows) (q : Request) (lines : LineVerdict) (plan : Plan)
+    (why : ConsoleFault) → BeginsOver known before now history q (Ok (lines, Some plan)) → RestoresPlan wanted earlier later now after had has plan (Err why)
     → RunsOver known earlier later before after history q (Err why)
 unfolding console_run
-runs_stopped None earlier later before now after had has history q lines plan why begins made = tt
-runs_stopped (Some text) earlier later before now after had has history q lines plan why begins made = λ volumes stands.
+runs_stopped None wanted earlier later before now after had has history q lines plan why begins made = tt
+runs_stopped (Some text) wanted earlier later before now after had has history q lines plan why begins made = λ volumes stands.
     by_fault volumes why (made.0 volumes (stands plan begins.1)) made.1
   where
     front : (volumes : List Volume) → Keeps now after → AppendsFront before after (run_from (begun history q text) volumes).text
@@ -453,11 +461,11 @@ pub tells_undone : (known before after : Option (List ℕ)) (history : List JobR
 tells_undone None before after history q lines begins = tt
 tells_undone (Some text) before after history q lines begins = (begins.0, (begins.1, begins.2))
 
-pub tells_restored : (known : Option (List ℕ)) (earlier later : Told) (before now after : Option (List ℕ)) (had has : InSink) (history : List JobRows) (q : Request) (lines : LineVerdict) (plan : Plan)
-    (end : RestoreEnd) → BeginsOver known before now history q (Ok (lines, Some plan)) → RestoresPlan earlier later now after had has plan (Ok end)
-    → TellsOver known before after history q (Ok (record { lines = lines; end = Done end }))
-tells_restored None earlier later before now after had has history q lines plan end begins made = tt
-tells_restored (Some text) earlier later before now after had has history q lines plan end begins made =
+pub tells_restored : (known : Option (List ℕ)) (wanted : Wanted) (earlier later : Told) (before now after : Option (List ℕ)) (had has : InSink) (history : List JobRows) (q : Request) (lines : LineVerdict) (plan : Plan)
+    (done : Extracted) → BeginsOver known before now history q (Ok (lines, Some plan)) → RestoresPlan wanted earlier later now after had has plan (Ok done)
+    → TellsOver known before after history q (Ok (record { lines = lines; end = Done done }))
+tells_restored None wanted earlier later before now after had has history q lines plan done begins made = tt
+tells_restored (Some text) wanted earlier later before now after had has history q lines plan done begins made =
     (begins.0, (plan, made.0, begins.1, made.3.0, Appends-trans before now after (begun history q text).text (manifest made.0) begins.2 made.2))
 
 pub tells_stopped : (known before now after : Option (List ℕ)) (history : List JobRows) (q : Request) (lines : LineVerdict) (plan : Plan) (why : ConsoleFault)
@@ -480,9 +488,27 @@ pub restores_undone : (known : Option (List ℕ)) (earlier later : Told) (before
 restores_undone None earlier later before after history q lines begins = tt
 restores_undone (Some text) earlier later before after history q lines begins = (begins.0, (begins.1, begins.2))
 
-pub restores_files : (known : Option (List ℕ)) (earlier later : Told) (before now after : Option (List ℕ)) (had has : InSink) (history : List JobRows) (q : Request) (lines : LineVerdict) (plan : Plan)
-    (end : RestoreEnd) → BeginsOver known before now history q (Ok (lines, Some plan)) → (made : RestoresPlan earlier later now after had has plan (Ok end))
+pub restores_files : (known : Option (List ℕ)) (wanted : Wanted) (earlier later : Told) (before now after : Option (List ℕ)) (had has : InSink) (history : List JobRows) (q : Request) (lines : LineVerdict) (plan : Plan)
+    (done : Extracted) → BeginsOver known before now history q (Ok (lines, Some plan)) → (made : RestoresPlan wanted earlier later now after had has plan (Ok done))
     → RestoresOver known earlier later before after history q (are_accepted lines) (Some made.0)
-restores_files None earlier later before now after had has history q lines plan end begins made = tt
-restores_files (Some text) earlier later before now after had has history q lines plan end begins made =
+restores_files None wanted earlier later before now after had has history q lines plan done begins made = tt
+restores_files (Some text) wanted earlier later before now after had has history q lines plan done begins made =
     (begins.0, (plan, begins.1, made.1, Appends-trans before now after (begun history q text).text (manifest made.0) begins.2 made.2))
+
+-- ---- what is missing
+
+-- a plan is one
+plans_are : (one other : Plan) → ◌≡◌ {A = Result (Option Plan) ℕ} (Ok (Some one)) (Ok (Some other)) → one ≡ other
+plans_are one other h = cc
+
+-- what the plan asks for and its files lack is told
+pub misses_planned : (known before now : Option (List ℕ)) (history : List JobRows) (q : Request) (lines : LineVerdict) (plan : Plan) (wanted : Wanted) (rs : List Restored)
+    (done : Extracted) → BeginsOver known before now history q (Ok (lines, Some plan)) → TellsMissing wanted plan rs done → MissingOver known history q wanted (Done done) (Some rs)
+misses_planned None before now history q lines plan wanted rs done begins told = tt
+misses_planned (Some text) before now history q lines plan wanted rs done begins told = λ other is.
+    subst (λ (p : Plan). TellsMissing wanted p rs done) (plans_are plan other (sym begins.1 ∙ is)) told
+
+-- without files nothing is
+pub misses_nothing : (known : Option (List ℕ)) (history : List JobRows) (q : Request) (wanted : Wanted) → MissingOver known history q wanted Quit None
+misses_nothing None history q wanted = tt
+misses_nothing (Some text) history q wanted = tt

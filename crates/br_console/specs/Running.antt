@@ -1,6 +1,6 @@
 -- A run of the console: from a history and the lines of a dialogue to a bootstrap, and over volumes
 -- to a manifest. It says what is appended to what the writer held, and what is returned or refused.
-use Rattle.std.specs.Prelude.{◌≡◌, ℕ, Bool, true, List, [], ◌++◌, map, Option, Some, None, MatchOption, Result, Ok, Err, ⊤}
+use Rattle.std.specs.Prelude.{◌≡◌, ℕ, Bool, true, List, [], ◌++◌, Option, Some, None, MatchOption, Result, Ok, Err, ⊤}
 use Rattle.std.specs.Io.KnownBytes.{Appends, Keeps}
 use Rattle.br_data.specs.BodyWritten.{AppendsFront}
 use Rattle.br_model.specs.Answer.{◌>>=◌, refused_as, IsRefusal}
@@ -19,12 +19,11 @@ use Rattle.br_plan.specs.Fault as plan
 use Rattle.br_mark.specs.Seen.{Situation}
 use Rattle.br_engine.specs.Restoring.{Told, AllStand, restored_files}
 use Rattle.br_engine.specs.Outputs.{EndTells, InSink, are_files}
-use Rattle.br_engine.specs.Delivering.{EndsWith}
-use Rattle.br_engine.specs.declared.restore_end.RestoreEnd.{RestoreEnd}
+use Rattle.br_engine.specs.declared.extracted.Extracted.{Extracted}
 use Rattle.br_engine.specs.declared.fault.ExtractFault.{ExtractFault}
 use Rattle.br_engine.specs.declared.fault.ExtractFault.TheVariants as extract
 use Rattle.br_console.specs.ConsoleFault.{Refusal, OfPlan, OfPiece, WritesFront, cause, fault_number}
-use Rattle.br_console.specs.ConsoleEnding.{EndIs, are_accepted}
+use Rattle.br_console.specs.ConsoleEnding.{EndIs, EndsWanted, LeavesMissing, TellsMissing, are_accepted}
 use Rattle.br_console.specs.Talking.{are_answered}
 use Rattle.br_console.specs.declared.console_fault.ConsoleFault.{ConsoleFault}
 use Rattle.br_console.specs.declared.console_fault.ConsoleFault.TheVariants as fault
@@ -32,6 +31,7 @@ use Rattle.br_console.specs.declared.ending.LineVerdict.{LineVerdict}
 use Rattle.br_console.specs.declared.ending.End.{End}
 use Rattle.br_console.specs.declared.ending.End.TheVariants.{Done, Quit}
 use Rattle.br_console.specs.declared.ending.ConsoleRun.{ConsoleRun}
+use Rattle.br_types.specs.declared.wanted.Wanted.{Wanted}
 
 -- ---- before a drive is used
 
@@ -143,8 +143,8 @@ RunsOver None earlier later before after history q result = ⊤
 -- manifest of some files follows it, and the end says if each of them is a file.
 abbrev pub Ends : Option (List ℕ) → Option (List ℕ) → Begun → End → Type 0
 Ends before after b Quit = (b.plan ≡ Ok None) × Appends before after b.text
-Ends before after b (Done end) =
-    (plan : Plan) × (rs : List Restored) × (b.plan ≡ Ok (Some plan)) × EndTells end rs × Appends before after (b.text ++ manifest rs)
+Ends before after b (Done done) =
+    (plan : Plan) × (rs : List Restored) × (b.plan ≡ Ok (Some plan)) × EndTells done.end rs × Appends before after (b.text ++ manifest rs)
 
 -- The choice or the plan is refused with this number, and what comes before it was written. If
 -- memory ran out for it, a beginning of what is written before a drive is used was written.
@@ -217,12 +217,13 @@ StopsAt before after fault.Changed = Keeps before after
 StopsAt before after (fault.Io why) = ⊤
 StopsAt before after (fault.NoEnd turns) = ⊥
 
--- The files are those of the plan, their manifest was written, and the restore ended like this. Or
+-- The files are those of the plan, their manifest was written, and the restore ended as wanted. Or
 -- the refusal is the fault of a piece, and nothing was put.
-abbrev pub RestoresPlan : Told → Told → Option (List ℕ) → Option (List ℕ) → InSink → InSink → Plan → Result RestoreEnd ConsoleFault → Type 0
-RestoresPlan earlier later before after had has plan (Ok end) =
-    (rs : List Restored) × OverPlan earlier later plan (λ expected. expected ≡ Ok rs) × Appends before after (manifest rs) × EndsWith had has rs end
-RestoresPlan earlier later before after had has plan (Err why) =
+abbrev pub RestoresPlan : Wanted → Told → Told → Option (List ℕ) → Option (List ℕ) → InSink → InSink → Plan → Result Extracted ConsoleFault → Type 0
+RestoresPlan wanted earlier later before after had has plan (Ok done) =
+    (rs : List Restored) × OverPlan earlier later plan (λ expected. expected ≡ Ok rs) × Appends before after (manifest rs) × EndsWanted wanted had has rs done
+    × TellsMissing wanted plan rs done
+RestoresPlan wanted earlier later before after had has plan (Err why) =
     OverPlan earlier later plan (λ expected. IsRefusal (cause why) (refused_as OfPiece expected)) × StopsAt before after why × (has ≡ had)
 
 -- the fault of a restore as one of a run
@@ -252,3 +253,8 @@ abbrev pub RestoresOver : Option (List ℕ) → Told → Told → Option (List �
 RestoresOver (Some text) earlier later before after history q clean files =
     ((begun history q text).is_clean ≡ clean) × Restores earlier later before after (begun history q text) files
 RestoresOver None earlier later before after history q clean files = ⊤
+
+-- what the plan of these lines asks for and the files lack is told, if the reader reports its bytes
+abbrev pub MissingOver : Option (List ℕ) → List JobRows → Request → Wanted → End → Option (List Restored) → Type 0
+MissingOver (Some text) history q wanted end files = LeavesMissing (begun history q text).plan wanted end files
+MissingOver None history q wanted end files = ⊤

@@ -1,4 +1,4 @@
-use br_engine::RestoreEnd;
+use br_engine::Extracted;
 
 /// Whether the lines of a dialogue were accepted.
 #[derive(Clone, Copy)]
@@ -27,7 +27,7 @@ pub struct SessionOutcome {
 #[derive(Drop)]
 pub enum End {
     /// The dialogue ended with `done`, and the marked files were restored.
-    Done(RestoreEnd),
+    Done(Extracted),
     /// The dialogue ended with `quit` or the end of input.
     Quit,
 }

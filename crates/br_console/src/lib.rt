@@ -1,8 +1,8 @@
 //! The restore console and scripts.
 //!
 //! The console leads from the history of some jobs and a dialogue to a bootstrap, to the files that
-//! it gives and their manifest, and into a sink if there is one: `prepare`, `converse` and
-//! `run_console`.
+//! it gives and their manifest, and into a sink if there is one: `run_console`. Its parts are
+//! `prepare`, which calls `converse`, and `finish`, which calls `restore_plan`.
 //!
 //! A script fills volumes, commits jobs, and restores by bootstraps and by dialogues with the
 //! console, line by line. `run_script` works in memory, and `run_script_over` with any catalogue
@@ -39,7 +39,7 @@ pub use driven_store::{DrivenRestore, DrivenStore, VolumeReader, restore_by};
 pub use ending::{ConsoleRun, End, LineVerdict, SessionEnd, SessionOutcome};
 pub use fixed_drive::FixedDrive;
 pub use forgetful::Forgetful;
-pub use running::{prepare, run_console};
+pub use running::{finish, prepare, restore_plan, run_console};
 pub use script::ScriptEnd;
 pub use script_fault::ScriptFault;
 pub use script_run::{run_script, run_script_over};

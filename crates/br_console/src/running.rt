@@ -1,4 +1,4 @@
-ghost use Rattle.std.specs.Prelude.{◌≡◌, ℕ, Err, IfErr, IfOk, OnOk};
+ghost use Rattle.std.specs.Prelude.{◌≡◌, ℕ, [], Err, Some, IfErr, IfOk, OnOk};
 ghost use Rattle.br_model.specs.Answer.{Answers};
 ghost use Rattle.br_plan.specs.Fault.{cause};
 ghost use Rattle.br_pool.specs.Pool.{AreDrives, OnlyIfAllFail, StayInPlace};
@@ -6,19 +6,21 @@ ghost use Rattle.br_engine.specs.Fault.{IsNoLine};
 ghost use Rattle.br_engine.specs.Restores.{CountsFailures, change};
 ghost use Rattle.br_console.specs.ConsoleFault.{EndlessAfterAll, IsNoPiece};
 ghost use Rattle.br_console.specs.Running.{BecomesFault, IsNoDriveLeft, WritesPlan, opening};
-ghost use Rattle.br_console.specs.Delivering.{BeginsInto, ChangesInto, DeliversInto, RunStopIsCounted, RunStopIsLost};
+ghost use Rattle.br_console.specs.Delivering.{BeginsInto, ChangesInto, Puts, RunStopIsCounted, RunStopIsLost};
 ghost use Rattle.br_console.specs.Delivering.{RunsInto, TellsInto};
+ghost use Rattle.br_console.specs.Delivering.{ChangesPlan, FinishesInto, PlanStopIsCounted, PlanStopIsLost, RestoresInto};
 ghost use Rattle.br_console.specs.Delivering.{IfUnchosen, IsViewOfAsked, plan_for};
 
 use crate::console_fault::ConsoleFault;
 use crate::ending::{ConsoleRun, End, LineVerdict, SessionEnd};
 use crate::talking::converse;
-use br_bsr::write_bootstrap;
-use br_engine::{ExtractFault, Flush, Restore, RestoreOrder, show};
+use br_bsr::{Bootstrap, write_bootstrap};
+use br_engine::{CountedBootstrap, ExtractFault, Extracted, Flush, Restore, RestoreOrder, show};
 use br_mark::Console;
 use br_plan::{JobSelection, Plan, PlanFault};
 use br_sink::Sink;
 use br_tree::Tree;
+use br_types::{Names, Wanted};
 use br_view::View;
 use br_volume::Drive;
 use std::alloc::Global;
@@ -100,13 +102,61 @@ fn console_fault(fault: ExtractFault) -> ConsoleFault
     }
 }
 
+/// Returns the order to restore the files of a plan.
+fn order_of<'b>(bootstrap: &'b Bootstrap, names: Names, wanted: Wanted) -> RestoreOrder<'b>
+    ensures bootstrap { result.asked.bootstrap.now ≡ bootstrap.entry.now }
+    ensures counts { result.asked.counts.now ≡ [] }
+    ensures names { result.names ≡ Some names }
+    ensures wanted { result.wanted ≡ wanted }
+{
+    RestoreOrder {
+        asked: CountedBootstrap {
+            bootstrap,
+            counts: &[],
+        },
+        names: Some(names),
+        wanted,
+    }
+}
+
+/// Restores the files of a plan under their names: writes and flushes their manifest, and then
+/// delivers those that are wanted into the sink, if there is one.
+///
+/// # Errors
+///
+/// Those of `Restore::run`. After an error nothing is put into the sink.
+pub fn restore_plan<D: Drive + Send, W: Flush, S: Sink>(
+    rt: &(impl Threads + Wait + Sync),
+    restore: &mut Restore<D, S>,
+    plan: Plan,
+    wanted: Wanted,
+    writer: &mut W,
+) -> Result<Extracted, ConsoleFault>
+    requires drives { AreDrives restore.old.drives.items }
+    ensures restores { RestoresInto wanted (change D.Drive W.Write S.Sink (restore.old, writer.old) (restore.new, writer.new)) plan result }
+    ensures changed { ChangesPlan (change D.Drive W.Write S.Sink (restore.old, writer.old) (restore.new, writer.new)) plan result }
+    ensures flushed { OnOk result (W.is_flushed writer.new) }
+    ensures endless { IfErr result EndlessAfterAll }
+    ensures places { StayInPlace D.shows D.failures restore.old.drives.items restore.new.drives.items }
+    ensures failed { OnlyIfAllFail D.failures restore.old.drives.items restore.new.drives.items IsNoDriveLeft result }
+    ensures lost { PlanStopIsLost D.failures restore.old restore.new result }
+    ensures sink_counted { CountsFailures S.failures restore.old restore.new }
+    ensures sink_failed { PlanStopIsCounted S.failures restore.old restore.new result }
+{
+    let (bootstrap, names) = plan.into_parts();
+    let order = order_of(&bootstrap, names, wanted);
+    match restore.run(rt, order, writer) {
+        Ok(done) => Ok(done),
+        Err(fault) => Err(console_fault(fault)),
+    }
+}
+
 /// Runs the console over a history: runs a session over the view of the jobs that a request chooses, as
 /// `converse`, from a console at `/` without marks.
 ///
 /// If the session ended with `done`, the plan for the marked paths is made, and its bootstrap is
-/// written and flushed before a drive is used. The planned files are then restored under their
-/// names: their manifest is written and flushed, and they are delivered into the sink, if there is
-/// one. If the session ended with `quit` or at the end of input, nothing follows.
+/// written and flushed before a drive is used. The planned files are then restored as
+/// `restore_plan` does. If the session ended with `quit` or at the end of input, nothing follows.
 ///
 /// # Errors
 ///
@@ -123,12 +173,13 @@ pub fn run_console<R: BufRead + Drop, D: Drive + Send, W: Flush, S: Sink>(
     rt: &(impl Threads + Wait + Sync),
     restore: &mut Restore<D, S>,
     asked: &JobSelection<'_>,
+    wanted: Wanted,
     reader: &mut R,
     writer: &mut W,
 ) -> Result<ConsoleRun, ConsoleFault>
     requires drives { AreDrives restore.old.drives.items }
     requires shown { W.is_flushed writer.old }
-    ensures delivers { DeliversInto (R.remaining reader.old) (change D.Drive W.Write S.Sink (restore.old, writer.old) (restore.new, writer.new)) asked.now result }
+    ensures delivers { Puts wanted (R.remaining reader.old) (change D.Drive W.Write S.Sink (restore.old, writer.old) (restore.new, writer.new)) asked.now result }
     ensures runs { RunsInto (R.remaining reader.old) (change D.Drive W.Write S.Sink (restore.old, writer.old) (restore.new, writer.new)) asked.now result }
     ensures tells { TellsInto (R.remaining reader.old) (W.contents writer.old) (W.contents writer.new) asked.now result }
     ensures flushed { OnOk result (W.is_flushed writer.new) }
@@ -149,13 +200,45 @@ pub fn run_console<R: BufRead + Drop, D: Drive + Send, W: Flush, S: Sink>(
             end: End::Quit,
         });
     };
-    let (bootstrap, names) = plan.into_parts();
-    let order = RestoreOrder::plain(&bootstrap, Some(names));
-    match restore.run(rt, order, writer) {
+    match restore_plan(rt, restore, plan, wanted, writer) {
         Ok(done) => Ok(ConsoleRun {
             lines,
-            end: End::Done(done.end),
+            end: End::Done(done),
         }),
-        Err(fault) => Err(console_fault(fault)),
+        Err(fault) => Err(fault),
+    }
+}
+
+/// Makes what follows `prepare` in a run of the console: restores by the plan as `restore_plan`, if
+/// there is one. So the manifest may go to another writer than what comes before it.
+///
+/// # Errors
+///
+/// The error of `prepare`, or those of `restore_plan`.
+pub fn finish<D: Drive + Send, W: Flush, S: Sink>(
+    rt: &(impl Threads + Wait + Sync),
+    restore: &mut Restore<D, S>,
+    prepared: Result<(LineVerdict, Option<Plan>), ConsoleFault>,
+    wanted: Wanted,
+    writer: &mut W,
+) -> Result<ConsoleRun, ConsoleFault>
+    requires drives { AreDrives restore.old.drives.items }
+    requires shown { W.is_flushed writer.old }
+    ensures finishes { FinishesInto wanted (change D.Drive W.Write S.Sink (restore.old, writer.old) (restore.new, writer.new)) prepared result }
+    ensures flushed { OnOk result (W.is_flushed writer.new) }
+{
+    let (lines, plan) = prepared?;
+    let Some(plan) = plan else {
+        return Ok(ConsoleRun {
+            lines,
+            end: End::Quit,
+        });
+    };
+    match restore_plan(rt, restore, plan, wanted, writer) {
+        Ok(done) => Ok(ConsoleRun {
+            lines,
+            end: End::Done(done),
+        }),
+        Err(fault) => Err(fault),
     }
 }

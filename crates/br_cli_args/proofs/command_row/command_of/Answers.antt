@@ -10,7 +10,7 @@ returns-clause-app c =
     IfOk-weaker c.with_options-3.result _ _
     (λ last is.
     is
-    ∙ ap (with_rows row.by_bootstrap.now)
+    ∙ ap (with_rows row.choices.now)
     (c.in_ok-restoring.ensures.app
     ∙ ap (with_rows row.restoring.now) (c.in_ok-own.ensures.app ∙ ap (with_rows row.own.now) (ap app_of_fields c.about-command.ensures ∙ c.new.ensures.app))))
     c.with_options-3.ensures.app

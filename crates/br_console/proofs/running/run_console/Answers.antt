@@ -1,4 +1,4 @@
-use Rattle.std.proofs.Common.{Option, Some, None, Ok, Err, map, refl, subst}
+use Rattle.std.proofs.Common.{Option, Some, None, Ok, map, refl, subst}
 use Rattle.std.proofs.lemmas.Result.{err_from_is_err_and}
 use Rattle.br_model.specs.Plan.{Plan}
 use Rattle.br_pool.proofs.WorkedLaws.{all_kept}
@@ -6,7 +6,7 @@ use Rattle.br_engine.specs.Restores.{change}
 use Rattle.br_engine.proofs.EndLaws.{stops_weaker}
 use Rattle.br_console.specs.ConsoleFault.{IsNoPiece}
 use Rattle.br_console.specs.Running.{BeginsOver}
-use Rattle.br_console.proofs.RunLaws.{by_plan, change_stays, no_drive_in_piece, no_drive_stays, none_planned, plan_refused, plan_restored, restored_has_end, restores_files, restores_undone, runs_refused, runs_restored, runs_stopped, runs_undone, tells_refused, tells_restored, tells_stopped, tells_undone}
+use Rattle.br_console.proofs.RunLaws.{misses_nothing, misses_planned, no_drive_in_piece, none_planned, restores_files, restores_undone, runs_refused, runs_restored, runs_stopped, runs_undone, tells_refused, tells_restored, tells_stopped, tells_undone}
 use Rattle.br_console.proofs.running.run_console.Goals as goal
 
 -- ---- before a drive is asked
@@ -68,6 +68,7 @@ returns-in_default-clause-delivers g c =
       restores_undone known shown shown before after asked.history asked.request lines
           (subst (λ (plan : Option Plan). BeginsOver known before after asked.history asked.request (Ok (lines, plan))) c.in_default.is c.in_ok-lines.ensures.begins),
       refl,
+      misses_nothing known asked.history asked.request c.args.wanted,
     )
 
 pub returns-in_default-clause-runs : goal.returns-in_default-clause-runs
@@ -99,80 +100,48 @@ returns-in_default-clause-places g c = all_kept g.D.Drive.shows g.D.Drive.failur
 
 -- ---- the restore is refused
 
-pub returns-clause-delivers : goal.returns-clause-delivers
-returns-clause-delivers g c =
+pub returns-in-Err-clause-delivers : goal.returns-in-Err-clause-delivers
+returns-in-Err-clause-delivers g c = c.in-Err.ensures.restores.2
+
+pub returns-in-Err-clause-runs : goal.returns-in-Err-clause-runs
+returns-in-Err-clause-runs g c =
     let known = g.R.Read.remaining c.args.reader.now in
     let before = g.W.Write.contents c.args.writer.now in
-    let seen = change g.D.Drive g.W.Write g.S.Sink (c.args.restore.now, c.prepare.new.writer) (c.run.new.self, c.run.new.writer) in
+    let seen = change g.D.Drive g.W.Write g.S.Sink (c.args.restore.now, c.prepare.new.writer) (c.restore_plan.new.restore, c.restore_plan.new.writer) in
     let asked = c.args.asked.now in
     let lines = c.in_ok-lines.lines in
     let plan = c.in-Some.plan in
     let begins =
     subst (λ (p : Option Plan). BeginsOver known before seen.old.written asked.history asked.request (Ok (lines, p))) c.in-Some.is c.in_ok-lines.ensures.begins in
-    let parts = c.into_parts-bootstrap in
-    let order = c.plain-order in
-    let made =
-    plan_refused seen.old.told seen.new.told seen.old.written seen.new.written seen.old.has seen.new.has plan c.in-Err.fault c.console_fault.result c.console_fault.ensures
-    (by_plan order.result seen (Err c.in-Err.fault) plan parts.result.0 parts.result.1 order.ensures.bootstrap order.ensures.names order.ensures.wanted parts.ensures.bootstrap
-    parts.ensures.names c.in-Err.ensures.restores) in
-    made.2
+    runs_stopped known c.args.wanted seen.old.told seen.new.told before seen.old.written seen.new.written seen.old.has seen.new.has asked.history asked.request lines plan c.in-Err.fault begins
+    c.in-Err.ensures.restores
 
-pub returns-clause-runs : goal.returns-clause-runs
-returns-clause-runs g c =
+pub returns-in-Err-clause-tells : goal.returns-in-Err-clause-tells
+returns-in-Err-clause-tells g c =
     let known = g.R.Read.remaining c.args.reader.now in
     let before = g.W.Write.contents c.args.writer.now in
-    let seen = change g.D.Drive g.W.Write g.S.Sink (c.args.restore.now, c.prepare.new.writer) (c.run.new.self, c.run.new.writer) in
+    let seen = change g.D.Drive g.W.Write g.S.Sink (c.args.restore.now, c.prepare.new.writer) (c.restore_plan.new.restore, c.restore_plan.new.writer) in
     let asked = c.args.asked.now in
     let lines = c.in_ok-lines.lines in
     let plan = c.in-Some.plan in
     let begins =
     subst (λ (p : Option Plan). BeginsOver known before seen.old.written asked.history asked.request (Ok (lines, p))) c.in-Some.is c.in_ok-lines.ensures.begins in
-    let parts = c.into_parts-bootstrap in
-    let order = c.plain-order in
-    let made =
-    plan_refused seen.old.told seen.new.told seen.old.written seen.new.written seen.old.has seen.new.has plan c.in-Err.fault c.console_fault.result c.console_fault.ensures
-    (by_plan order.result seen (Err c.in-Err.fault) plan parts.result.0 parts.result.1 order.ensures.bootstrap order.ensures.names order.ensures.wanted parts.ensures.bootstrap
-    parts.ensures.names c.in-Err.ensures.restores) in
-    runs_stopped known seen.old.told seen.new.told before seen.old.written seen.new.written seen.old.has seen.new.has asked.history asked.request lines plan c.console_fault.result begins made
+    tells_stopped known before seen.old.written seen.new.written asked.history asked.request lines plan c.in-Err.fault begins c.in-Err.ensures.restores.1
 
-pub returns-clause-tells : goal.returns-clause-tells
-returns-clause-tells g c =
+pub returns-in-Err-clause-untouched : goal.returns-in-Err-clause-untouched
+returns-in-Err-clause-untouched g c = λ n refused. absurd (c.in_ok-lines.ensures.chosen n refused)
+
+pub returns-in-Err-clause-changed : goal.returns-in-Err-clause-changed
+returns-in-Err-clause-changed g c = λ is.
     let known = g.R.Read.remaining c.args.reader.now in
     let before = g.W.Write.contents c.args.writer.now in
-    let seen = change g.D.Drive g.W.Write g.S.Sink (c.args.restore.now, c.prepare.new.writer) (c.run.new.self, c.run.new.writer) in
+    let seen = change g.D.Drive g.W.Write g.S.Sink (c.args.restore.now, c.prepare.new.writer) (c.restore_plan.new.restore, c.restore_plan.new.writer) in
     let asked = c.args.asked.now in
     let lines = c.in_ok-lines.lines in
     let plan = c.in-Some.plan in
     let begins =
     subst (λ (p : Option Plan). BeginsOver known before seen.old.written asked.history asked.request (Ok (lines, p))) c.in-Some.is c.in_ok-lines.ensures.begins in
-    let parts = c.into_parts-bootstrap in
-    let order = c.plain-order in
-    let made =
-    plan_refused seen.old.told seen.new.told seen.old.written seen.new.written seen.old.has seen.new.has plan c.in-Err.fault c.console_fault.result c.console_fault.ensures
-    (by_plan order.result seen (Err c.in-Err.fault) plan parts.result.0 parts.result.1 order.ensures.bootstrap order.ensures.names order.ensures.wanted parts.ensures.bootstrap
-    parts.ensures.names c.in-Err.ensures.restores) in
-    tells_stopped known before seen.old.written seen.new.written asked.history asked.request lines plan c.console_fault.result begins made.1
-
-pub returns-clause-untouched : goal.returns-clause-untouched
-returns-clause-untouched g c = λ n refused. absurd (c.in_ok-lines.ensures.chosen n refused)
-
-pub returns-clause-endless : goal.returns-clause-endless
-returns-clause-endless g c = restored_has_end c.in-Err.fault c.console_fault.result c.console_fault.ensures
-
-pub returns-clause-failed : goal.returns-clause-failed
-returns-clause-failed g c = λ is. c.in-Err.ensures.failed (no_drive_stays c.in-Err.fault c.console_fault.result c.console_fault.ensures is)
-
-pub returns-clause-changed : goal.returns-clause-changed
-returns-clause-changed g c = λ is.
-    let known = g.R.Read.remaining c.args.reader.now in
-    let before = g.W.Write.contents c.args.writer.now in
-    let seen = change g.D.Drive g.W.Write g.S.Sink (c.args.restore.now, c.prepare.new.writer) (c.run.new.self, c.run.new.writer) in
-    let asked = c.args.asked.now in
-    let lines = c.in_ok-lines.lines in
-    let begins =
-    subst (λ (p : Option Plan). BeginsOver known before seen.old.written asked.history asked.request (Ok (lines, p))) c.in-Some.is c.in_ok-lines.ensures.begins in
-    none_planned known seen.old.told seen.new.told before seen.old.written asked.history asked.request lines c.in-Some.plan _ _ begins c.plain-order.ensures.bootstrap
-    c.into_parts-bootstrap.ensures.bootstrap (c.in-Err.ensures.changed (change_stays c.in-Err.fault c.console_fault.result c.console_fault.ensures is))
+    none_planned known seen.old.told seen.new.told before seen.old.written asked.history asked.request lines plan begins (c.in-Err.ensures.changed is)
 
 -- ---- the files are restored
 
@@ -180,58 +149,44 @@ pub returns-in-Ok-clause-delivers : goal.returns-in-Ok-clause-delivers
 returns-in-Ok-clause-delivers g c =
     let known = g.R.Read.remaining c.args.reader.now in
     let before = g.W.Write.contents c.args.writer.now in
-    let seen = change g.D.Drive g.W.Write g.S.Sink (c.args.restore.now, c.prepare.new.writer) (c.run.new.self, c.run.new.writer) in
+    let seen = change g.D.Drive g.W.Write g.S.Sink (c.args.restore.now, c.prepare.new.writer) (c.restore_plan.new.restore, c.restore_plan.new.writer) in
     let asked = c.args.asked.now in
     let lines = c.in_ok-lines.lines in
     let plan = c.in-Some.plan in
     let begins =
     subst (λ (p : Option Plan). BeginsOver known before seen.old.written asked.history asked.request (Ok (lines, p))) c.in-Some.is c.in_ok-lines.ensures.begins in
-    let parts = c.into_parts-bootstrap in
-    let order = c.plain-order in
-    let made =
-    plan_restored seen.old.told seen.new.told seen.old.written seen.new.written seen.old.has seen.new.has plan c.in-Ok.done.end
-    (by_plan order.result seen (Ok c.in-Ok.done) plan parts.result.0 parts.result.1 order.ensures.bootstrap order.ensures.names order.ensures.wanted parts.ensures.bootstrap
-    parts.ensures.names c.in-Ok.ensures.restores) in (
+    let made = c.in-Ok.ensures.restores in (
       Some made.0,
-      restores_files known seen.old.told seen.new.told before seen.old.written seen.new.written seen.old.has seen.new.has asked.history asked.request lines plan c.in-Ok.done.end begins made,
+      restores_files known c.args.wanted seen.old.told seen.new.told before seen.old.written seen.new.written seen.old.has seen.new.has asked.history asked.request lines plan c.in-Ok.done begins made,
       made.3,
+      misses_planned known before seen.old.written asked.history asked.request lines plan c.args.wanted made.0 c.in-Ok.done begins made.4,
     )
 
 pub returns-in-Ok-clause-runs : goal.returns-in-Ok-clause-runs
 returns-in-Ok-clause-runs g c =
     let known = g.R.Read.remaining c.args.reader.now in
     let before = g.W.Write.contents c.args.writer.now in
-    let seen = change g.D.Drive g.W.Write g.S.Sink (c.args.restore.now, c.prepare.new.writer) (c.run.new.self, c.run.new.writer) in
+    let seen = change g.D.Drive g.W.Write g.S.Sink (c.args.restore.now, c.prepare.new.writer) (c.restore_plan.new.restore, c.restore_plan.new.writer) in
     let asked = c.args.asked.now in
     let lines = c.in_ok-lines.lines in
     let plan = c.in-Some.plan in
     let begins =
     subst (λ (p : Option Plan). BeginsOver known before seen.old.written asked.history asked.request (Ok (lines, p))) c.in-Some.is c.in_ok-lines.ensures.begins in
-    let parts = c.into_parts-bootstrap in
-    let order = c.plain-order in
-    let made =
-    plan_restored seen.old.told seen.new.told seen.old.written seen.new.written seen.old.has seen.new.has plan c.in-Ok.done.end
-    (by_plan order.result seen (Ok c.in-Ok.done) plan parts.result.0 parts.result.1 order.ensures.bootstrap order.ensures.names order.ensures.wanted parts.ensures.bootstrap
-    parts.ensures.names c.in-Ok.ensures.restores) in
-    runs_restored known seen.old.told seen.new.told before seen.old.written seen.new.written seen.old.has seen.new.has asked.history asked.request lines plan c.in-Ok.done.end begins made
+    runs_restored known c.args.wanted seen.old.told seen.new.told before seen.old.written seen.new.written seen.old.has seen.new.has asked.history asked.request lines plan c.in-Ok.done begins
+    c.in-Ok.ensures.restores
 
 pub returns-in-Ok-clause-tells : goal.returns-in-Ok-clause-tells
 returns-in-Ok-clause-tells g c =
     let known = g.R.Read.remaining c.args.reader.now in
     let before = g.W.Write.contents c.args.writer.now in
-    let seen = change g.D.Drive g.W.Write g.S.Sink (c.args.restore.now, c.prepare.new.writer) (c.run.new.self, c.run.new.writer) in
+    let seen = change g.D.Drive g.W.Write g.S.Sink (c.args.restore.now, c.prepare.new.writer) (c.restore_plan.new.restore, c.restore_plan.new.writer) in
     let asked = c.args.asked.now in
     let lines = c.in_ok-lines.lines in
     let plan = c.in-Some.plan in
     let begins =
     subst (λ (p : Option Plan). BeginsOver known before seen.old.written asked.history asked.request (Ok (lines, p))) c.in-Some.is c.in_ok-lines.ensures.begins in
-    let parts = c.into_parts-bootstrap in
-    let order = c.plain-order in
-    let made =
-    plan_restored seen.old.told seen.new.told seen.old.written seen.new.written seen.old.has seen.new.has plan c.in-Ok.done.end
-    (by_plan order.result seen (Ok c.in-Ok.done) plan parts.result.0 parts.result.1 order.ensures.bootstrap order.ensures.names order.ensures.wanted parts.ensures.bootstrap
-    parts.ensures.names c.in-Ok.ensures.restores) in
-    tells_restored known seen.old.told seen.new.told before seen.old.written seen.new.written seen.old.has seen.new.has asked.history asked.request lines plan c.in-Ok.done.end begins made
+    tells_restored known c.args.wanted seen.old.told seen.new.told before seen.old.written seen.new.written seen.old.has seen.new.has asked.history asked.request lines plan c.in-Ok.done begins
+    c.in-Ok.ensures.restores
 
 pub returns-in-Ok-clause-untouched : goal.returns-in-Ok-clause-untouched
 returns-in-Ok-clause-untouched g c = λ n refused. absurd (c.in_ok-lines.ensures.chosen n refused)
@@ -240,12 +195,12 @@ pub returns-in-Ok-clause-changed : goal.returns-in-Ok-clause-changed
 returns-in-Ok-clause-changed g c =
     let known = g.R.Read.remaining c.args.reader.now in
     let before = g.W.Write.contents c.args.writer.now in
-    let seen = change g.D.Drive g.W.Write g.S.Sink (c.args.restore.now, c.prepare.new.writer) (c.run.new.self, c.run.new.writer) in
+    let seen = change g.D.Drive g.W.Write g.S.Sink (c.args.restore.now, c.prepare.new.writer) (c.restore_plan.new.restore, c.restore_plan.new.writer) in
     let asked = c.args.asked.now in
     let lines = c.in_ok-lines.lines in
+    let plan = c.in-Some.plan in
     let begins =
     subst (λ (p : Option Plan). BeginsOver known before seen.old.written asked.history asked.request (Ok (lines, p))) c.in-Some.is c.in_ok-lines.ensures.begins in
     stops_weaker 72 _ _ c.in-Ok.done.end
-    (none_planned known seen.old.told seen.new.told before seen.old.written asked.history asked.request lines c.in-Some.plan _ _ begins c.plain-order.ensures.bootstrap
-    c.into_parts-bootstrap.ensures.bootstrap)
+    (none_planned known seen.old.told seen.new.told before seen.old.written asked.history asked.request lines plan begins)
     c.in-Ok.ensures.changed
