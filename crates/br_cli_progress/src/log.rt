@@ -16,7 +16,7 @@ pub struct Log {
 }
 
 impl Log {
-    /// Opens the file at a path to append to it, or makes it if it is not there; `-` stands for
+    /// Opens the file at a path to append to it, or makes it if it is not there; `-` means
     /// standard error.
     pub fn open(rt: &HostRuntime, path: &str) -> io::Result<Log> {
         let mut how = OpenOptions::new();

@@ -20,7 +20,7 @@ use std::io::{self, ErrorKind};
 /// The number of files whose reasons are reported.
 const FILES: usize = 8;
 
-/// The name of the stream that `--tar -` stands for.
+/// The name of the stream that `--tar -` writes to.
 const OUTPUT: &str = "standard output";
 
 /// Appends a line to the log with the name of the program's stream or file that failed, if it has

@@ -100,7 +100,7 @@ impl Begun {
         self.first_open = Some(hit.spot);
     }
 
-    /// Leaves the hit behind others that are not digested. It waits if they do.
+    /// Leaves the hit after others that are not digested. It waits if they do.
     fn pass(&mut self, hit: &Hit, policy: &mut Policy)
         ensures { IsPassed hit.now self.old self.new }
     {

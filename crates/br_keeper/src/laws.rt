@@ -20,8 +20,8 @@ pub fn crashes_leave_jobs()
     ensures { CrashesLeaveJobs }
 {}
 
-/// States that a keeper whose volumes hold the jobs that it has stored stands after any commits:
-/// its volumes then hold these jobs and all that the commits stored.
+/// States that commits keep what volumes hold: if they hold the jobs that a keeper had stored,
+/// they hold these jobs after any commits, and all that the commits stored.
 pub fn commits_stand<C: JobStore, W: VolumeStore>()
     ensures { CommitsStand (lasting C.JobStore W.VolumeStore) }
 {}

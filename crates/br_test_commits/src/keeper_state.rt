@@ -9,7 +9,7 @@ use std::io;
 
 pub(crate) type MemKeeper = Keeper<MemJobs, MemStore>;
 
-/// What a keeper works on, and leaves behind.
+/// What a keeper works on, and what it leaves.
 pub(crate) type Kept = (MemJobs, MemStore);
 
 /// Returns a catalogue without jobs and a store without volumes.
