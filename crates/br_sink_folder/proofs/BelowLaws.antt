@@ -2,7 +2,6 @@
 use Rattle.std.proofs.Common.{◌≡◌, ℕ, ◌<◌, ◌+◌, ◌-◌, ◌⊎◌, Bool, true, false, cond, Option, Some, None, Result, Ok, Err, OnOk, List, ◌∷◌, ◌++◌, length, take, inl, inr, refl, ap, sym, arith, ◌∙◌}
 use Rattle.std.specs.Prelude.{bytes_eq, slice_range, suc}
 use Rattle.std.proofs.lemmas.Slice.Eq.{bytes_eq-Decides}
-use Rattle.std.proofs.lemmas.List.{append_assoc}
 use Rattle.std.proofs.Math.Seq.{take-append-add}
 use Rattle.std.specs.Io.KnownBytes.{Appends}
 use Rattle.br_fs.specs.Making.{Node, Nodes, Bytes, Else, IsBelow, IsFileOrFree, IsFinished, IsFolderNow, KeepsOthers, MakesFile, Opened, Sets, node_at}
@@ -14,10 +13,6 @@ use Rattle.br_sink_folder.specs.Below.{AddsFolders, IsNewFolder, KeepsOutside, M
 
 pub below_root : (root path rest : List ℕ) → path ≡ 47 ∷ rest → IsBelow root (root ++ path)
 below_root root path rest is = (rest, ap (λ (p : List ℕ). root ++ p) is)
-
--- a longer path is below the folder, too
-pub below_longer : (root path more : List ℕ) → IsBelow root path → IsBelow root (path ++ more)
-below_longer root path more (rest, is) = (rest ++ more, ap (λ (p : List ℕ). p ++ more) is ∙ append_assoc root (47 ∷ rest) more)
 
 -- a front of a path below the folder that is longer than the folder's
 pub front_below : (root path front : List ℕ) (at : ℕ) → IsBelow root path → length root < at → front ≡ slice_range path 0 at

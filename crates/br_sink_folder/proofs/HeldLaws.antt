@@ -1,19 +1,22 @@
 -- What is left below a folder while files are put, some of which are held open.
-use Rattle.std.proofs.Common.{◌≡◌, ℕ, zero, suc, ◌<◌, ◌≤◌, ◌+◌, ◌⊎◌, Bool, true, false, cond, Option, Some, None, Ok, List, [], ◌∷◌, ◌++◌, length, get_or, set, take, drop, inl, inr, refl, ap, sym, subst, ◌∙◌, arith}
+use Rattle.std.proofs.Common.{◌≡◌, ℕ, zero, suc, ◌<◌, ◌≤◌, ◌+◌, ◌⊎◌, Bool, true, false, cond, Option, Some, None, Result, Ok, Err, OnOk, List, [], ◌∷◌, ◌++◌, length, get_or, set, take, drop, inl, inr, refl, ap, sym, subst, ◌∙◌, ⊎_elim, arith}
 use Rattle.std.specs.Prelude.{◌&&◌, bytes_eq, ⊤}
 use Rattle.std.specs.List.{AllByRecursion}
-use Rattle.std.proofs.lemmas.List.{drop-set-lt, drop_all, drop_more, map-append, take_all, take_more_set}
+use Rattle.std.proofs.lemmas.List.{drop-set-lt, drop_all, drop_more, map-append, take-append-le, take_all, take_more_set}
 use Rattle.std.proofs.lemmas.List.Sums.{fold-append}
+use Rattle.std.proofs.Math.Seq.{take-length}
 use Rattle.std.proofs.lemmas.Slice.Eq.{bytes_eq-Decides}
 use Rattle.std.specs.Io.KnownBytes.{Appends}
 use Rattle.br_model.specs.File.{Item, has_bytes}
 use Rattle.br_fs.specs.Making.{Nodes, Node, Bytes, Opened, AreSet, IsFinished, IsFree, KeepsOthers, MakesFile, node_at}
 use Rattle.br_sink_folder.specs.Below.{AddsFolders, IsNewFolder, PutsBelow}
 use Rattle.br_sink_folder.specs.FolderSink.{PutsItem}
-use Rattle.br_sink_folder.specs.Held.{AnsweredAt, AppendsSome, AreAnswered, AreLast, ArePlaced, FinishesOne, FinishesSome, HaveOwnPaths, Holds, HoldsOver, IsLeft, IsNew, IsOpenWith, IsWritten, LeavesAnswered, LeavesFiles, MakesOne, NoneAt, Rise, WritesEach, WritesOne, bytes_after, bytes_put, items_of, path_at}
+use Rattle.br_sink_folder.specs.Held.{AnsweredAt, AppendsSome, AreAnswered, AreLast, AreAllFrom, ArePlaced, FinishesOne, FinishesSome, HaveOwnPaths, Holds, HoldsOver, IsLeft, IsNew, IsOpenWith, IsPlaceOf, IsWritten, LeavesAll, LeavesAnswered, LeavesFiles, LeavesWritten, MakesOne, NoneAt, Rise, WritesEach, WritesOne, bytes_after, bytes_put, items_of, path_at}
 use Rattle.br_sink_folder.specs.Removed.{files_of}
+use Rattle.br_sink_folder.specs.Way.{MakesFolder, MakesFolders}
 use Rattle.br_sink_folder.specs.declared.window.Made.{Made}
 use Rattle.br_sink_folder.proofs.BelowLaws.{adds_both, differs}
+use Rattle.br_sink_folder.proofs.WayLaws.{folders_more, folders_stay, free_no_folder, no_folder, none_told, opened_no_folder, stay_added, stay_item, stay_same, stay_set}
 
 -- what is at one path after one more change
 
@@ -130,6 +133,50 @@ all_low items n [] is placed = tt
 all_low items n (file ∷ files) is placed =
     let low = path_low items file.0 file.1 placed.0 in (omega (arith, low, is), all_low items n files is placed.1)
 
+place_low : (items : List Item) (files : List (ℕ × List ℕ)) (place : ℕ) → ArePlaced items files → IsPlaceOf place files → place < length items
+place_low items [] place placed at = absurd at
+place_low items (file ∷ files) place placed (inl is) = let low = path_low items file.0 file.1 placed.0 in omega (arith, low, is)
+place_low items (file ∷ files) place placed (inr more) = place_low items files place placed.1 more
+
+last_place : (files : List (ℕ × List ℕ)) (file : ℕ × List ℕ) (place : ℕ) → IsPlaceOf place (files ++ file ∷ [])
+    → IsPlaceOf place files ⊎ (file.0 ≡ place)
+last_place [] file place (inl is) = inr is
+last_place [] file place (inr none) = absurd none
+last_place (first ∷ files) file place (inl is) = inl (inl is)
+last_place (first ∷ files) file place (inr more) =
+    ⊎_elim (λ (front : IsPlaceOf place files). inl (inr front)) (λ (is : file.0 ≡ place). inr is) (last_place files file place more)
+
+-- what is put from a place on, if no item from there on has the path
+
+puts_before : (root path : List ℕ) (items : List Item) (item : Item) (place : ℕ) → place ≤ length items
+    → bytes_put root (items ++ item ∷ []) path ≡ bytes_put root items path → bytes_put root items path ≡ bytes_put root (take place items) path
+    → bytes_put root (items ++ item ∷ []) path ≡ bytes_put root (take place (items ++ item ∷ [])) path
+puts_before root path items item place low last more =
+    last ∙ more ∙ ap (λ (l : List Item). bytes_put root l path) (sym (take-append-le place items (item ∷ []) low))
+
+all_without : (root : List ℕ) (items : List Item) (item : Item) (files : List (ℕ × List ℕ)) → has_bytes item.kind ≡ false → ArePlaced items files
+    → AreAllFrom root items files → AreAllFrom root (items ++ item ∷ []) files
+all_without root items item files none placed all = λ place path at free.
+    let low = place_low items files place placed at in
+    puts_before root path items item place (omega (arith, low)) (put_none root path items item none) (all place path at free)
+
+all_held : (root : List ℕ) (items : List Item) (item : Item) (files : List (ℕ × List ℕ)) (own : ℕ) → own ≡ length items → ArePlaced items files
+    → AreAllFrom root items files → AreAllFrom root (items ++ item ∷ []) (files ++ (own, item.path) ∷ [])
+all_held root items item files own is placed all = λ place path at free.
+    let file : ℕ × List ℕ = (own, item.path) in
+    let P : ℕ × List ℕ → Type 0 = λ it. place ≤ it.0 → root ++ it.1 ≡ path → ⊥ in
+    ⊎_elim
+    (λ (front : IsPlaceOf place files).
+    let low = place_low items files place placed front in
+    puts_before root path items item place (omega (arith, low))
+    (put_apart root path items item (all_end P files file free (omega (arith, low, is)))) (all place path front (all_front P files file free)))
+    (λ (same : own ≡ place).
+    let low : place ≤ length items = omega (arith, same, is) in
+    let whole : items ≡ take place items = sym (ap (λ (n : ℕ). take n items) (sym same ∙ is) ∙ take-length items) in
+    puts_before root path items item place low (put_apart root path items item (all_end P files file free (omega (arith, same))))
+    (ap (λ (l : List Item). bytes_put root l path) whole))
+    (last_place files file place at)
+
 rise_more : (files : List (ℕ × List ℕ)) (file : ℕ × List ℕ) → Rise files → AllByRecursion (λ (other : ℕ × List ℕ). other.0 < file.0) files
     → Rise (files ++ file ∷ [])
 rise_more [] file rise low = (tt, tt)
@@ -144,6 +191,7 @@ pub record Closes {W : Type 0} (contents : W → Option (List ℕ)) (root : List
   pub apart : HaveOwnPaths root (items_of left)
   pub last : AreLast root items (items_of left)
   pub each : AllByRecursion (IsWritten contents root later) left
+  pub folders : AreAnswered done → MakesFolders root items (Some later)
 
 abbrev pub ClosesOver : {W : Type 0} → (W → Option (List ℕ)) → List ℕ → List Item → List (Made W) → List (Made W) → Option Nodes → Option Nodes → Type 0
 ClosesOver contents root items done left None None = ⊤
@@ -201,7 +249,9 @@ module _ {W : Type 0} (contents : W → Option (List ℕ)) (root : List ℕ) whe
     last = h.last;
     placed = h.placed;
     rise = h.rise;
+    every = h.every;
     each = new_folders b c made added h.each;
+    folders = folders_stay root items (Some b) (Some c) (stay_added root (Some b) (Some c) added) h.folders;
   }
 
   pub over_folders : (items : List Item) (made : List (Made W)) (a b c : Option Nodes)
@@ -215,23 +265,32 @@ module _ {W : Type 0} (contents : W → Option (List ℕ)) (root : List ℕ) whe
 
   -- what has no bytes is put
 
-  without : (items : List Item) (made : List (Made W)) (item : Item) (a b : Nodes) → has_bytes item.kind ≡ false
+  without : (items : List Item) (made : List (Made W)) (item : Item) (a b : Nodes) → has_bytes item.kind ≡ false → MakesFolder root item (Some b)
       → Holds (IsNew contents root) root items made a b → Holds (IsNew contents root) root (items ++ item ∷ []) made a b
-  without items made item a b none h = record {
+  without items made item a b none folder h = record {
     rest = λ path free. subst (λ (was : Option (List ℕ)). IsLeft root path was a b) (sym (put_none root path items item none)) (h.rest path free);
     apart = h.apart;
     last = last_none root items (items_of made) item h.last none;
     placed = placed_more items item (files_of made) h.placed;
     rise = h.rise;
+    every = all_without root items item (files_of made) none h.placed h.every;
     each = h.each;
+    folders = folders_more root items item (Some b) (Some b) h.folders (stay_same (Some b) (Some b) refl) folder;
   }
 
   pub over_without : (items : List Item) (made : List (Made W)) (item : Item) (a b : Option Nodes) → has_bytes item.kind ≡ false
+      → MakesFolder root item b
       → HoldsOver (IsNew contents root) root items made a b → HoldsOver (IsNew contents root) root (items ++ item ∷ []) made a b
-  over_without items made item None None none h = tt
-  over_without items made item None (Some b) none h = absurd h
-  over_without items made item (Some a) None none h = absurd h
-  over_without items made item (Some a) (Some b) none h = without items made item a b none h
+  over_without items made item None None none folder h = tt
+  over_without items made item None (Some b) none folder h = absurd h
+  over_without items made item (Some a) None none folder h = absurd h
+  over_without items made item (Some a) (Some b) none folder h = without items made item a b none folder h
+
+  -- what is not on disk is put
+  pub over_other : (items : List Item) (made : List (Made W)) (item : Item) (a b : Option Nodes) → has_bytes item.kind ≡ false
+      → (item.kind ≡ 5 → ⊥)
+      → HoldsOver (IsNew contents root) root items made a b → HoldsOver (IsNew contents root) root (items ++ item ∷ []) made a b
+  over_other items made item a b none other h = over_without items made item a b none (λ folder. absurd (other folder)) h
 
   -- a new file is held
 
@@ -264,9 +323,13 @@ module _ {W : Type 0} (contents : W → Option (List ℕ)) (root : List ℕ) whe
             (all_more (λ (file : ℕ × List ℕ). path_at (items ++ item ∷ []) file.0 ≡ Some file.1) (files_of made) new_file
             (placed_more items item (files_of made) h.placed) own_place);
         rise = subst Rise (sym files) (rise_more (files_of made) new_file h.rise (all_low items m.place (files_of made) place h.placed));
+        every = subst (AreAllFrom root (items ++ item ∷ [])) (sym files) (all_held root items item (files_of made) m.place place h.placed h.every);
         each =
             all_more (IsNew contents root c) made m (new_set path (Some (Opened n)) b c made set none h.each)
             (file, n, is, new, set_own path (Some (Opened n)) b c set);
+        folders =
+            folders_more root items item (Some b) (Some c) h.folders
+            (stay_set path (Some (Opened n)) b c (free_no_folder (node_at b path) free) set) (no_folder root item (Some c) has);
       }
 
   more_over : (items : List Item) (made : List (Made W)) (m : Made W) (file : W) (a b c : Option Nodes) → has_bytes m.item.now.kind ≡ true
@@ -351,7 +414,9 @@ module _ {W : Type 0} (contents : W → Option (List ℕ)) (root : List ℕ) whe
         last = subst (AreLast root items) (sym same) h.last;
         placed = subst (ArePlaced items) (sym files) h.placed;
         rise = subst Rise (sym files) h.rise;
+        every = subst (AreAllFrom root items) (sym files) h.every;
         each = written_all b old new len w h.each;
+        folders = h.folders;
       }
 
   -- one of them is finished
@@ -394,6 +459,13 @@ module _ {W : Type 0} (contents : W → Option (List ℕ)) (root : List ℕ) whe
     apart = h.apart.1;
     last = h.last.1;
     each = written_kept (root ++ old.item.now.path) b c left kept h.apart.0 h.each.1;
+    folders = λ answered.
+        let put = finishes (all_end (λ (m : Made W). m.answer ≡ Ok tt) done new answered) in
+        let path : List ℕ = root ++ old.item.now.path in
+        let opened = h.each.0 put.0 in
+        let stay =
+        stay_set path (Some (Bytes old.item.now.bytes)) b c (opened_no_folder (node_at b path) opened.1 opened.4) (finish_sets old b c put.0 h.each.0 put.1) in
+        folders_stay root items (Some b) (Some c) stay (h.folders (all_front (λ (m : Made W). m.answer ≡ Ok tt) done new answered));
   }
 
   closed_over : (items : List Item) (old new : Made W) (done left : List (Made W)) (a b c : Option Nodes) → new.item.now ≡ old.item.now
@@ -413,7 +485,7 @@ module _ {W : Type 0} (contents : W → Option (List ℕ)) (root : List ℕ) whe
   close_begin items made None (Some b) h = absurd h
   close_begin items made (Some a) None h = absurd h
   close_begin items made (Some a) (Some b) h =
-      record { rest = λ path answered none. h.rest path none; apart = h.apart; last = h.last; each = h.each }
+      record { rest = λ path answered none. h.rest path none; apart = h.apart; last = h.last; each = h.each; folders = λ answered. h.folders }
 
   -- a loop that finishes them one by one
   pub close_step : (items : List Item) (made : List (Made W)) (i : ℕ) (old new : Made W) (nodes b c : Option Nodes) → i < length made
@@ -428,14 +500,14 @@ module _ {W : Type 0} (contents : W → Option (List ℕ)) (root : List ℕ) whe
       (subst (λ (l : List (Made W)). ClosesOver contents root items l (drop (i + 1) made) nodes c) (sym (take_more_set made i new low))
       (closed_over items old new (take i made) (drop (i + 1) made) nodes b c item finishes kept now))
 
-  closed_end : (items : List Item) (made : List (Made W)) (a c : Option Nodes) → ClosesOver contents root items made [] a c → LeavesAnswered root items made a c
-  closed_end items made None None h = tt
+  closed_end : (items : List Item) (made : List (Made W)) (a c : Option Nodes) → ClosesOver contents root items made [] a c → LeavesWritten root items made a c
+  closed_end items made None None h = record { files = tt; folders = λ answered. none_told root items }
   closed_end items made None (Some c) h = absurd h
   closed_end items made (Some a) None h = absurd h
-  closed_end items made (Some a) (Some c) h = λ path answered. h.rest path answered tt
+  closed_end items made (Some a) (Some c) h = record { files = λ path answered. h.rest path answered tt; folders = h.folders }
 
   pub close_end : (items : List Item) (made : List (Made W)) (i : ℕ) (nodes c : Option Nodes) → length made ≤ i
-      → ClosesOver contents root items (take i made) (drop i made) nodes c → LeavesAnswered root items made nodes c
+      → ClosesOver contents root items (take i made) (drop i made) nodes c → LeavesWritten root items made nodes c
   close_end items made i nodes c past h =
       closed_end items made nodes c
       (subst (λ (l : List (Made W)). ClosesOver contents root items made l nodes c) (drop_all i made past)
@@ -447,26 +519,37 @@ module _ {W : Type 0} (contents : W → Option (List ℕ)) (root : List ℕ) whe
   answered_at path [] answered = tt
   answered_at path (m ∷ made) answered = ((λ is. answered.0), answered_at path made answered.1)
 
-  pub all_left : (items : List Item) (made : List (Made W)) (a c : Option Nodes) → AreAnswered made → LeavesAnswered root items made a c
+  files_left : (items : List Item) (made : List (Made W)) (a c : Option Nodes) → AreAnswered made → LeavesAnswered root items made a c
       → LeavesFiles root items a c
-  all_left items made None None answered left = tt
-  all_left items made None (Some c) answered left = absurd left
-  all_left items made (Some a) None answered left = absurd left
-  all_left items made (Some a) (Some c) answered left = λ path. left path (answered_at path made answered)
+  files_left items made None None answered left = tt
+  files_left items made None (Some c) answered left = absurd left
+  files_left items made (Some a) None answered left = absurd left
+  files_left items made (Some a) (Some c) answered left = λ path. left path (answered_at path made answered)
 
-  pub over_again : (items : List Item) (made : List (Made W)) (a b : Option Nodes) → made ≡ [] → LeavesFiles root items a b
+  pub all_left : (items : List Item) (made : List (Made W)) (a c : Option Nodes) → AreAnswered made → LeavesWritten root items made a c
+      → LeavesAll root items a c
+  all_left items made a c answered left = record { files = files_left items made a c answered left.files; folders = left.folders answered }
+
+  again : (items : List Item) (a b : Option Nodes) → LeavesFiles root items a b → MakesFolders root items b → HoldsOver (IsNew contents root) root items [] a b
+  again items None None files folders = tt
+  again items None (Some b) files folders = absurd files
+  again items (Some a) None files folders = absurd files
+  again items (Some a) (Some b) files folders =
+      record { rest = λ path free. files path; apart = tt; last = tt; placed = tt; rise = tt; every = λ place path at free. absurd at; each = tt; folders = folders }
+
+  pub over_again : (items : List Item) (made : List (Made W)) (a b : Option Nodes) → made ≡ [] → LeavesAll root items a b
       → HoldsOver (IsNew contents root) root items made a b
-  over_again items made None None none h = tt
-  over_again items made None (Some b) none h = absurd h
-  over_again items made (Some a) None none h = absurd h
-  over_again items made (Some a) (Some b) none h =
-      subst (λ (l : List (Made W)). Holds (IsNew contents root) root items l a b) (sym none)
-      (record { rest = λ path free. h path; apart = tt; last = tt; placed = tt; rise = tt; each = tt })
+  over_again items made a b none h =
+      subst (λ (l : List (Made W)). HoldsOver (IsNew contents root) root items l a b) (sym none) (again items a b h.files h.folders)
 
 -- nothing was put yet
+
 pub leaves_nothing : (root : List ℕ) (nodes : Option Nodes) → LeavesFiles root [] nodes nodes
 leaves_nothing root None = tt
 leaves_nothing root (Some a) = λ path. inl refl
+
+pub all_nothing : (root : List ℕ) (nodes : Option Nodes) → LeavesAll root [] nodes nodes
+all_nothing root nodes = record { files = leaves_nothing root nodes; folders = tt }
 
 -- a file is put alone, while none is held
 
@@ -520,3 +603,21 @@ leaves_by root items item a b c false has left put folders = leaves_folders root
 pub leaves_item : (root : List ℕ) (items : List Item) (item : Item) (a b c : Option Nodes) → LeavesFiles root items a b
     → PutsItem root item b c → (has_bytes item.kind ≡ false → AddsFolders root b c) → LeavesFiles root (items ++ item ∷ []) a c
 leaves_item root items item a b c left put folders = leaves_by root items item a b c (has_bytes item.kind) refl left put folders
+
+pub leaves_all : (root : List ℕ) (items : List Item) (item : Item) (a b c : Option Nodes) → LeavesAll root items a b → PutsItem root item b c
+    → (has_bytes item.kind ≡ false → AddsFolders root b c) → MakesFolder root item c → LeavesAll root (items ++ item ∷ []) a c
+leaves_all root items item a b c left put folders folder = record {
+  files = leaves_item root items item a b c left.files put folders;
+  folders = folders_more root items item b c left.folders (stay_item root item b c put folders) folder;
+}
+
+-- both are left
+pub files_of_all : {A E : Type 0} (result : Result A E) (root : List ℕ) (items : List Item) (a b : Option Nodes) → OnOk result (LeavesAll root items a b)
+    → OnOk result (LeavesFiles root items a b)
+files_of_all (Ok x) root items a b left = left.files
+files_of_all (Err e) root items a b left = tt
+
+pub folders_of_all : {A E : Type 0} (result : Result A E) (root : List ℕ) (items : List Item) (a b : Option Nodes) → OnOk result (LeavesAll root items a b)
+    → OnOk result (MakesFolders root items b)
+folders_of_all (Ok x) root items a b left = left.folders
+folders_of_all (Err e) root items a b left = tt

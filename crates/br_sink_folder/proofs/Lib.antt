@@ -1,4 +1,5 @@
 pub mod BelowLaws
+pub mod WayLaws
 pub mod WindowLaws
 pub mod HeldLaws
 pub mod RemovalLaws
@@ -9,3 +10,4 @@ pub mod TwoLaws
 pub mod LikeLaws
 mod ResumingExamples
 pub mod OtherLaws
+mod WayExamples

@@ -1,25 +1,27 @@
 -- Files that are put, or are there already.
-use Rattle.std.proofs.Common.{◌≡◌, ℕ, suc, ◌+◌, ◌⊎◌, Bool, true, false, cond, option_map, Option, Some, None, Result, Ok, Err, IfErr, IfOk, OnOk, List, [], ◌∷◌, ◌++◌, length, inl, inr, refl, ap, sym, subst, ◌∙◌, arith, append_assoc, length-append}
-use Rattle.std.specs.Prelude.{◌&&◌, bytes_eq, ⊤}
+use Rattle.std.proofs.Common.{◌≡◌, ℕ, suc, ◌+◌, ◌⊎◌, Bool, true, false, cond, option_map, Option, Some, None, Result, Ok, Err, IfErr, IfOk, OnErr, OnOk, List, [], ◌∷◌, ◌++◌, length, take, inl, inr, refl, ap, sym, subst, ◌∙◌, arith, append_assoc, length-append}
+use Rattle.std.specs.Prelude.{◌&&◌, bytes_eq}
 use Rattle.std.specs.List.{AllByRecursion}
+use Rattle.std.proofs.Math.Seq.{take-length}
+use Rattle.std.proofs.lemmas.List.{take-append-le}
 use Rattle.std.proofs.lemmas.Slice.Eq.{bytes_eq-Decides}
 use Rattle.md5.specs.Md5.{md5}
 use Rattle.br_model.specs.Delivery.{Stop}
 use Rattle.br_model.specs.File.{Item, has_bytes}
-use Rattle.br_fs.specs.Making.{Nodes, AreSet, Bytes, IsFileOrFree, kind_of, node_at}
-use Rattle.br_fs.specs.Alike.{IsAlike, IsAlikeAt}
+use Rattle.br_fs.specs.Making.{Nodes, AreSet, Bytes, kind_of, node_at}
+use Rattle.br_fs.specs.Alike.{IsAlike}
 use Rattle.br_sink_folder.specs.Below.{AddsFolders, IsNewFolder, KeepsOutside}
-use Rattle.br_sink_folder.specs.FolderSink.{PutsItem}
+use Rattle.br_sink_folder.specs.FolderSink.{InFolder, PutsItem}
 use Rattle.br_sink_folder.specs.Held.{LeavesFiles, is_put_at}
-use Rattle.br_sink_folder.specs.Removed.{ChangesOne}
-use Rattle.br_sink_folder.specs.Stopped.{LeavesAtStop}
+use Rattle.br_sink_folder.specs.Removed.{ChangesOne, GivesUp}
+use Rattle.br_sink_folder.specs.Stopped.{IsLeftAfter, LeavesAtStop}
 use Rattle.br_sink_folder.specs.There.{IsMissing, IsThere}
 use Rattle.br_sink_folder.proofs.BelowLaws.{adds_more, outside_added, outside_more}
 use Rattle.br_sink_folder.proofs.HeldLaws.{all_end, all_front, leaves_item, leaves_nothing}
 use Rattle.br_sink_folder.proofs.RemovalLaws.{changes_added, changes_more}
-use Rattle.br_sink_folder.proofs.StopLaws.{before_more, stops_alone}
+use Rattle.br_sink_folder.proofs.StopLaws.{before_more, only_alone, stops_alone}
 use Rattle.br_sink.specs.FileParts.{AreAlike, with_bytes}
-use Rattle.br_sink_folder.specs.Resuming.{AreLike, IsLike, KeepsWhole, LeavesLike, LeavesLikeAtStop, PutsLike}
+use Rattle.br_sink_folder.specs.Resuming.{AreLike, IsLike, IsLikeAfter, KeepsWhole, LeavesLike, LeavesLikeAtStop, PutsLike}
 
 -- a file is like itself
 itself : (item : Item) → IsLike item item
@@ -181,6 +183,40 @@ stops_like root all before rest item stop a b c is at (others, like, left) chang
       subst (λ (l : List Item). LeavesAtStop root l a c stop) joined
           (before_more root (others ++ item ∷ []) rest stop.done a c (omega (arith, done, longer)) one),
     )
+
+-- no others are left
+
+pub after_same : {A : Type 0} (result : Result A Stop) (refused : List ℕ → Type 0) (items : List Item) (old new : InFolder)
+    → IfErr result (IsLeftAfter refused old.path items old.nodes new.nodes) → IfErr result (IsLikeAfter refused items old new)
+after_same (Ok x) refused items old new left = tt
+after_same (Err stop) refused items old new left = (take stop.done items, all_themselves (take stop.done items), left)
+
+pub after_like : (refused : List ℕ → Type 0) (all before rest : List Item) (item : Item) (stop : Stop) (old new : InFolder) (middle : Option Nodes)
+    → all ≡ before ++ item ∷ rest → stop.done ≡ length before → LeavesLike old.path before old.nodes middle
+    → ChangesOne old.path (old.path ++ item.path) middle new.nodes → GivesUp refused old.path item.path middle new.nodes
+    → IsLikeAfter refused all old new stop
+after_like refused all before rest item stop old new middle is at (others, like, left) change gives =
+    let front : take stop.done all ≡ before =
+    ap (λ (l : List Item). take stop.done l) is ∙ take-append-le stop.done before (item ∷ rest) (omega (arith, at))
+    ∙ ap (λ (n : ℕ). take n before) at ∙ take-length before in
+    (others, subst (AreLike others) (sym front) like, only_alone refused old.path others item old.nodes middle new.nodes left change gives)
+
+-- folders were made first
+
+gives_more : (refused : List ℕ → Type 0) (root own : List ℕ) (a b c : Option Nodes) → AddsFolders root a b → GivesUp refused root own b c
+    → GivesUp refused root own a c
+gives_more refused root own a b c added (inl more) = inl (adds_more root a b c added more)
+gives_more refused root own a b c added (inr (middle, more, file, removed)) = inr (middle, adds_more root a b middle added more, file, removed)
+
+pub gives_up_after : {A E : Type 0} (result : Result A E) (refused : List ℕ → Type 0) (root of own : List ℕ) (a b c : Option Nodes) → of ≡ root
+    → AddsFolders root a b → OnErr result (GivesUp refused of own b c) → OnErr result (GivesUp refused root own a c)
+gives_up_after (Ok x) refused root of own a b c is added gives = tt
+gives_up_after (Err e) refused root of own a b c is added gives =
+    gives_more refused root own a b c added (subst (λ (r : List ℕ). GivesUp refused r own b c) is gives)
+
+-- nothing but folders was made
+pub gives_only : (refused : List ℕ → Type 0) (root own : List ℕ) (a b : Option Nodes) → AddsFolders root a b → GivesUp refused root own a b
+gives_only refused root own a b added = inl added
 
 -- files that are whole stay so
 

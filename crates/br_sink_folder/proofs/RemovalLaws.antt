@@ -1,13 +1,12 @@
 -- Files that are removed again.
-use Rattle.std.proofs.Common.{◌≡◌, ℕ, ◌<◌, ◌≤◌, ◌+◌, ◌⊎◌, Bool, true, false, cond, Option, Some, None, List, [], ◌∷◌, ◌++◌, length, get_or, set, take, inl, inr, refl, ap, sym, subst, ◌∙◌, arith}
-use Rattle.std.specs.Prelude.{bytes_eq, suc}
+use Rattle.std.proofs.Common.{◌≡◌, ℕ, ◌<◌, ◌≤◌, ◌+◌, ◌⊎◌, Bool, true, false, cond, Option, Some, None, List, [], ◌∷◌, ◌++◌, length, get_or, set, take, inl, inr, refl, ap, sym, subst, ◌∙◌}
+use Rattle.std.specs.Prelude.{bytes_eq}
 use Rattle.std.proofs.Math.Seq.{map-set_same}
 use Rattle.std.proofs.lemmas.List.{map-append, take_more}
 use Rattle.br_model.specs.File.{Item}
 use Rattle.br_fs.specs.Making.{Nodes, AreSet, Else, IsFileOrFree, KeepsOthers, Sets, node_at}
 use Rattle.br_fs.specs.declared.kind.Kind.TheVariants.{Folder}
 use Rattle.br_sink_folder.specs.Below.{AddsFolders, IsNewFolder, MakesNew}
-use Rattle.br_sink_folder.specs.Held.{WritesEach, WritesOne}
 use Rattle.br_sink_folder.specs.Removed.{AreRemoved, ChangesOne, GivesUp, HasNoFile, IsRemoved, LacksFile, MakesNoFile, MakesNone, files_of}
 use Rattle.br_sink_folder.specs.declared.window.Made.{Made}
 use Rattle.br_sink_folder.proofs.BelowLaws.{adds_both, adds_same, keeps_more}

@@ -1,10 +1,10 @@
 -- Files that are in the folder before they are put.
-use Rattle.std.proofs.Common.{◌≡◌, ℕ, Bool, true, false, Option, Some, None, List, ◌++◌, refl, ap, sym, subst, ◌∙◌}
+use Rattle.std.proofs.Common.{◌≡◌, ℕ, Bool, Option, Some, None, List, ◌++◌, ap, sym, subst, ◌∙◌}
 use Rattle.std.specs.Prelude.{option_map}
 use Rattle.br_fs.specs.Making.{Node, Nodes, Bytes, IsEmptyAt, IsFree, IsKindAt, IsNoFolder, kind_of, node_at}
 use Rattle.br_fs.specs.declared.kind.Kind.{Kind}
 use Rattle.br_fs.specs.declared.kind.Kind.TheVariants.{File, Folder}
-use Rattle.br_fs.specs.Alike.{IsAlike, IsAlikeAt, LacksAlikeAt}
+use Rattle.br_fs.specs.Alike.{IsAlikeAt, LacksAlikeAt}
 use Rattle.br_sink_folder.specs.Below.{AddsFolders}
 use Rattle.br_sink_folder.specs.There.{IsNotThere}
 use Rattle.br_sink_folder.specs.declared.fault.FolderFault.{FolderFault}

@@ -1,5 +1,5 @@
 -- Files that are held open.
-use Rattle.std.proofs.Common.{◌≡◌, ℕ, ◌<◌, ◌≤◌, ◌++◌, ◌∷◌, [], List, length, get_or, set, take, ◌+◌, ap, sym, subst, ◌∙◌, arith, Result, Ok, Err, OnOk}
+use Rattle.std.proofs.Common.{◌≡◌, ℕ, ◌<◌, ◌≤◌, ◌++◌, ◌∷◌, [], List, length, get_or, set, take, ◌+◌, ap, sym, subst, ◌∙◌, arith, Result, Ok, Err, OnErr, OnOk}
 use Rattle.std.proofs.lemmas.List.Elements.{All-push, All-set}
 use Rattle.std.proofs.lemmas.List.{take_more}
 use Rattle.br_sink_folder.specs.Held.{AreAnswered}
@@ -26,6 +26,10 @@ below_set n i made old new below is less same =
 pub on_ok_known : {T E P : Type 0} (r : Result T E) → P → OnOk r P
 on_ok_known (Ok x) p = p
 on_ok_known (Err e) p = tt
+
+pub on_err_known : {T E P : Type 0} (r : Result T E) → P → OnErr r P
+on_err_known (Ok x) p = tt
+on_err_known (Err e) p = p
 
 -- one more was looked at, and has no fault
 pub answered_more : {W : Type 0} (made : List (Made W)) (i : ℕ) (one : Made W) → AreAnswered (take i made) → i < length made

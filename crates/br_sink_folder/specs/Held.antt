@@ -1,6 +1,6 @@
 -- What a delivery of several files leaves below its folder, also while some of the files are held
 -- open.
-use Rattle.std.specs.Prelude.{◌≡◌, ℕ, ◌<◌, ◌⊎◌, Bool, ◌&&◌, if◌then◌else◌, List, [], ◌∷◌, ◌++◌, length, map, option_map, fold, slice_get, slice_index_or}
+use Rattle.std.specs.Prelude.{◌≡◌, ℕ, ◌<◌, ◌≤◌, ◌⊎◌, Bool, ◌&&◌, if◌then◌else◌, List, [], ◌∷◌, ◌++◌, length, map, take, option_map, fold, slice_get, slice_index_or}
 use Rattle.std.specs.Prelude.{bytes_eq, true, Option, Some, None, Result, Ok, OnErr, OnOk, ⊤}
 use Rattle.std.specs.List.{AllByRecursion}
 use Rattle.std.specs.Io.KnownBytes.{Appends}
@@ -9,6 +9,7 @@ use Rattle.br_data.specs.BodyWritten.{AppendsFront}
 use Rattle.br_fs.specs.Making.{Nodes, Bytes, Opened, IsFinished, IsFree, MakesFile, node_at}
 use Rattle.br_sink_folder.specs.Below.{AddsFolders, IsNewFolder}
 use Rattle.br_sink_folder.specs.Removed.{files_of}
+use Rattle.br_sink_folder.specs.Way.{MakesFolders}
 use Rattle.br_sink_folder.specs.declared.window.Made.{Made}
 
 -- a file with bytes is put at this path
@@ -35,6 +36,11 @@ LeavesFiles root items None None = ⊤
 LeavesFiles root items (Some earlier) (Some later) = (path : List ℕ) → IsLeft root path (bytes_put root items path) earlier later
 LeavesFiles root items None (Some later) = ⊥
 LeavesFiles root items (Some earlier) None = ⊥
+
+-- each file is left so, and each folder is there
+pub record LeavesAll (root : List ℕ) (items : List Item) (earlier later : Option Nodes) : Type 0 where
+  pub files : LeavesFiles root items earlier later
+  pub folders : MakesFolders root items later
 
 -- the files that are held open
 abbrev pub items_of : {W : Type 0} → List (Made W) → List Item
@@ -80,6 +86,22 @@ abbrev pub Rise : List (ℕ × List ℕ) → Type 0
 Rise [] = ⊤
 Rise (file ∷ files) = AllByRecursion (λ (later : ℕ × List ℕ). file.0 < later.0) files × Rise files
 
+-- none of these files from a place on has the path
+abbrev pub NoneFrom : List ℕ → List ℕ → ℕ → List (ℕ × List ℕ) → Type 0
+NoneFrom root path place files = AllByRecursion (λ (file : ℕ × List ℕ). place ≤ file.0 → root ++ file.1 ≡ path → ⊥) files
+
+-- the place is that of one of these files
+abbrev pub IsPlaceOf : ℕ → List (ℕ × List ℕ) → Type 0
+IsPlaceOf place [] = ⊥
+IsPlaceOf place (file ∷ files) = (file.0 ≡ place) ⊎ IsPlaceOf place files
+
+-- From the place of one of these files on, they are all items with bytes: at other paths these items
+-- put nothing from there on.
+abbrev pub AreAllFrom : List ℕ → List Item → List (ℕ × List ℕ) → Type 0
+AreAllFrom root items files =
+    (place : ℕ) (path : List ℕ) → IsPlaceOf place files → NoneFrom root path place files
+    → bytes_put root items path ≡ bytes_put root (take place items) path
+
 -- These items were put, except for the files that are held open.
 pub record Holds {W : Type 0} (P : Nodes → Made W → Type 0) (root : List ℕ) (items : List Item)
     (held : List (Made W)) (earlier later : Nodes) : Type 0 where
@@ -88,7 +110,9 @@ pub record Holds {W : Type 0} (P : Nodes → Made W → Type 0) (root : List ℕ
   pub last : AreLast root items (items_of held)
   pub placed : ArePlaced items (files_of held)
   pub rise : Rise (files_of held)
+  pub every : AreAllFrom root items (files_of held)
   pub each : AllByRecursion (P later) held
+  pub folders : MakesFolders root items (Some later)
 
 -- If the nodes are known, this holds of them.
 abbrev pub HoldsOver : {W : Type 0} → (Nodes → Made W → Type 0) → List ℕ → List Item → List (Made W) → Option Nodes → Option Nodes
@@ -125,14 +149,14 @@ HoldsFile contents root item place held left before after result =
 abbrev pub LeavesHeld : {W A E : Type 0} → (Nodes → Made W → Type 0) → List ℕ → List (Made W) → Option Nodes → Option Nodes
     → Result A E → Type 0
 LeavesHeld P root held before after result =
-    (items : List Item) (nodes : Option Nodes) → HoldsOver P root items held nodes before → OnOk result (LeavesFiles root items nodes after)
+    (items : List Item) (nodes : Option Nodes) → HoldsOver P root items held nodes before → OnOk result (LeavesAll root items nodes after)
 
 -- and so is one more item
 abbrev pub LeavesMore : {W A E : Type 0} → (Nodes → Made W → Type 0) → List ℕ → Item → List (Made W) → Option Nodes → Option Nodes
     → Result A E → Type 0
 LeavesMore P root item held before after result =
     (items : List Item) (nodes : Option Nodes) → HoldsOver P root items held nodes before
-    → OnOk result (LeavesFiles root (items ++ item ∷ []) nodes after)
+    → OnOk result (LeavesAll root (items ++ item ∷ []) nodes after)
 
 -- folders were made on the way of a file, and then the file; nothing was there before
 abbrev pub MakesOne : {W : Type 0} → (W → Option (List ℕ)) → List ℕ → Made W → Option Nodes → Option Nodes → Type 0
@@ -191,9 +215,15 @@ LeavesAnswered root items made (Some earlier) (Some later) =
 LeavesAnswered root items made None (Some later) = ⊥
 LeavesAnswered root items made (Some earlier) None = ⊥
 
+-- each path is left so, and each folder is there if no result is a fault
+pub record LeavesWritten {W : Type 0} (root : List ℕ) (items : List Item) (made : List (Made W))
+    (earlier later : Option Nodes) : Type 0 where
+  pub files : LeavesAnswered root items made earlier later
+  pub folders : AreAnswered made → MakesFolders root items later
+
 -- if items were put, except for the written files that are held open, all are left, except for those
 -- whose result is a fault
 abbrev pub FinishesHeld : {W : Type 0} → (W → Option (List ℕ)) → List ℕ → List (Made W) → List (Made W) → Option Nodes → Option Nodes → Type 0
 FinishesHeld contents root old new before after =
     (items : List Item) (nodes : Option Nodes) → HoldsOver (IsWritten contents root) root items old nodes before
-    → LeavesAnswered root items new nodes after
+    → LeavesWritten root items new nodes after

@@ -1,6 +1,7 @@
 pub mod Below
 pub mod Fault
 pub mod FolderSink
+pub mod Way
 pub mod Window
 pub mod Held
 pub mod Removed

@@ -1,5 +1,5 @@
 -- What a resumed delivery leaves.
-use Rattle.std.specs.Prelude.{◌≡◌, ℕ, true, List, [], ◌∷◌, length, Option, Some, None, ⊤}
+use Rattle.std.specs.Prelude.{◌≡◌, ℕ, true, List, [], ◌∷◌, length, take, Option, Some, None, ⊤}
 use Rattle.std.specs.List.{AllByRecursion}
 use Rattle.md5.specs.Md5.{md5}
 use Rattle.br_model.specs.Delivery.{Stop}
@@ -10,7 +10,7 @@ use Rattle.br_sink.specs.FileParts.{with_bytes}
 use Rattle.br_sink_folder.specs.Below.{AddsFolders}
 use Rattle.br_sink_folder.specs.FolderSink.{InFolder, PutsItem}
 use Rattle.br_sink_folder.specs.Held.{LeavesFiles, is_put_at}
-use Rattle.br_sink_folder.specs.Stopped.{LeavesAtStop}
+use Rattle.br_sink_folder.specs.Stopped.{LeavesAtStop, LeavesOnly}
 use Rattle.br_sink_folder.specs.There.{IsThere}
 use Rattle.br_types.specs.declared.wanted.Start.{Start}
 use Rattle.br_types.specs.declared.wanted.Start.TheVariants.{Resumed}
@@ -49,6 +49,11 @@ LeavesLike root items earlier later = (others : List Item) × AreLike others ite
 -- a stop leaves files like those before it
 abbrev pub LeavesLikeAtStop : List ℕ → List Item → Option Nodes → Option Nodes → Stop → Type 0
 LeavesLikeAtStop root items earlier later stop = (others : List Item) × AreLike others items × LeavesAtStop root others earlier later stop
+
+-- after a stop only files like those before it are left
+abbrev pub IsLikeAfter : (List ℕ → Type 0) → List Item → InFolder → InFolder → Stop → Type 0
+IsLikeAfter refused items old new stop =
+    (others : List Item) × AreLike others (take stop.done items) × LeavesOnly refused old.path others old.nodes new.nodes
 
 -- a file that is there already stays as it is in a resumed delivery, and only folders are made
 abbrev pub StaysThere : Start → List ℕ → Item → Option Nodes → Option Nodes → Type 0

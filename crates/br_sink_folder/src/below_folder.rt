@@ -1,12 +1,14 @@
 //! Files below a folder, and the folders on their ways.
-ghost use Rattle.std.specs.Prelude.{◌≡◌, ℕ, ◌<◌, List, length, ◌++◌, None, OnOk, OnErr, IfOk, string_bytes};
+ghost use Rattle.std.specs.Prelude.{◌≡◌, ℕ, ◌<◌, true, List, length, take, ◌++◌, None, OnOk, OnErr, IfOk, string_bytes};
 ghost use Rattle.std.specs.IoError.{error_kind};
 ghost use Rattle.std.specs.declared.io.ErrorKind.TheVariants.{OutOfMemory};
-ghost use Rattle.br_fs.specs.Making.{IsBelow, IsFileOrFree, IsFinished, IsFree, KeepsOthers, MakesFile, Sets};
+ghost use Rattle.br_fs.specs.Making.{IsBelow, IsFileOrFree, IsFinished, IsFree, IsKindAt, KeepsOthers, MakesFile, Sets};
+ghost use Rattle.br_fs.specs.declared.kind.Kind.TheVariants.{Folder};
 ghost use Rattle.br_sink.specs.declared.fault.SinkFault.TheVariants.{Memory, Fault};
 ghost use Rattle.br_sink_folder.specs.Below.{AddsFolders, MakesNew, WritesNew};
 ghost use Rattle.br_sink_folder.specs.Fault.{sink_fault};
 ghost use Rattle.br_sink_folder.specs.Removed.{HasNoFile, MakesNoFile, MakesNone};
+ghost use Rattle.br_sink_folder.specs.Way.{HasWay, begins_with_slash, ends_name, folder_path, slashed};
 
 use br_fs::{DiskFault, FileMaker, clear_path, enter_folder};
 use br_join::FileBytes;
@@ -39,8 +41,9 @@ pub(crate) fn write_fault(error: io::Error) -> SinkFault
 }
 
 /// Makes the folder unless it exists.
-#[tactic(auto, using(crate::proofs::BelowLaws::adds_folder, crate::proofs::BelowLaws::adds_same))]
+#[tactic(auto, using(crate::proofs::BelowLaws::adds_folder, crate::proofs::BelowLaws::adds_same, crate::proofs::WayLaws::folder_now))]
 fn make_folder<M: FileMaker>(maker: &mut M, path: &str) -> Result<(), SinkFault>
+    ensures folder { OnOk result (IsKindAt (M.nodes maker.new) path.now Folder) }
     ensures added { (root : List ℕ) → IsBelow root path.now → AddsFolders root (M.nodes maker.old) (M.nodes maker.new) }
 {
     match enter_folder(maker, path) {
@@ -49,7 +52,16 @@ fn make_folder<M: FileMaker>(maker: &mut M, path: &str) -> Result<(), SinkFault>
     }
 }
 
-/// Makes the folder at the first part of the path, which ends at `at`.
+/// Returns whether a name ends just before this place of the path.
+fn ends_name(path: &[u8], at: usize) -> bool
+    requires some { 0 < at }
+    requires within { at < length path.now }
+    ensures { result ≡ ends_name path.now at }
+{
+    path[at] == b'/' && path[at - 1] != b'/'
+}
+
+/// Makes the folder at the first part of the path, which ends at `at`, if a name ends there.
 #[tactic(auto, using(crate::proofs::BelowLaws::front_below, crate::proofs::BelowLaws::adds_same))]
 fn make_front<M: FileMaker>(
     maker: &mut M,
@@ -59,34 +71,29 @@ fn make_front<M: FileMaker>(
 ) -> Result<(), SinkFault>
     requires below { IsBelow root.now path.now }
     requires past { length root.now < at }
+    requires within { at < length path.now }
+    ensures folder { OnOk result (ends_name path.now at ≡ true → IsKindAt (M.nodes maker.new) (take at path.now) Folder) }
     ensures added { AddsFolders root.now (M.nodes maker.old) (M.nodes maker.new) }
 {
+    if !ends_name(path.as_bytes(), at) {
+        return Ok(());
+    }
     match path.get(..at) {
         Some(front) => make_folder(maker, front),
-        None => Ok(()),
+        None => Err(SinkFault::Fault),
     }
-}
-
-/// Returns whether a name ends just before this place of the path.
-fn ends_name(path: &[u8], at: usize) -> bool
-    requires some { 0 < at }
-    requires within { at < length path.now }
-{
-    path[at] == b'/' && path[at - 1] != b'/'
 }
 
 /// Makes the folders that are missing on the way to a path below the folder. It builds no path, so
 /// that a file can be removed again after memory ran out.
-#[tactic(auto, using(crate::proofs::BelowLaws::adds_more, crate::proofs::BelowLaws::adds_same))]
+#[tactic(auto, using(crate::proofs::BelowLaws::adds_more, crate::proofs::BelowLaws::adds_same, crate::proofs::WayLaws::way_begins))]
 pub(crate) fn make_way<M: FileMaker>(maker: &mut M, root: &str, path: &str) -> Result<(), SinkFault>
     requires below { IsBelow root.now path.now }
+    ensures way { OnOk result (HasWay root.now path.now (M.nodes maker.new)) }
     ensures added { AddsFolders root.now (M.nodes maker.old) (M.nodes maker.new) }
 {
-    let bytes = path.as_bytes();
-    for at in root.len() + 1..bytes.len() {
-        if ends_name(bytes, at) {
-            make_front(maker, root, path, at)?;
-        }
+    for at in root.len() + 1..path.len() {
+        make_front(maker, root, path, at)?;
     }
     Ok(())
 }
@@ -107,15 +114,35 @@ pub(crate) fn path_below(alloc: Global, root: &str, path: &str) -> Result<String
     }
 }
 
+/// Returns whether the path begins with a slash.
+fn begins_with_slash(path: &[u8]) -> bool
+    ensures { result ≡ begins_with_slash path.now }
+{
+    match path {
+        [] => false,
+        [first, ..] => *first == b'/',
+    }
+}
+
+/// Returns a slash if the path does not begin with one, else nothing.
+fn missing_slash(path: &str) -> &'static str
+    ensures { result.now ++ path.now ≡ slashed path.now }
+{
+    if begins_with_slash(path.as_bytes()) {
+        ""
+    } else {
+        "/"
+    }
+}
+
 /// Returns the path of a folder below the folder, with a slash at its end.
-#[tactic(auto, using(crate::proofs::BelowLaws::below_longer, crate::proofs::BelowLaws::below_root))]
+#[tactic(auto, using(crate::proofs::WayLaws::folder_joined, crate::proofs::WayLaws::folder_is_below))]
 pub(crate) fn folder_below(alloc: Global, root: &str, path: &str) -> Result<String, SinkFault>
+    ensures path { IfOk result (λ whole. string_bytes whole ≡ root.now ++ folder_path path.now) }
     ensures below { IfOk result (λ whole. IsBelow root.now (string_bytes whole)) }
 {
     let mut whole = String::from_str(alloc, root)?;
-    if !path.starts_with('/') {
-        whole.push('/')?;
-    }
+    whole.push_str(missing_slash(path))?;
     whole.push_str(path)?;
     whole.push('/')?;
     Ok(whole)

@@ -9,6 +9,7 @@ ghost use Rattle.br_sink.specs.declared.file_parts.PartsFault.TheVariants as why
 ghost use Rattle.br_sink_folder.specs.Below.{AddsFolders, KeepsOutside, PutsBelow, WritesNew};
 ghost use Rattle.br_sink_folder.specs.FolderSink.{PutsItem, is_on_disk};
 ghost use Rattle.br_sink_folder.specs.Removed.{GivesUp};
+ghost use Rattle.br_sink_folder.specs.Way.{MakesFolder};
 
 use crate::below_folder::{finish, make_anew};
 use crate::remover::{Remover, take_back};
@@ -86,6 +87,7 @@ fn write_other<M: Remover>(
     ensures text { OnOk result (is_on_disk item.now.kind ≡ true → IsUtf8 item.now.path) }
     ensures name { OnOk result (has_bytes item.now.kind ≡ true → is_directory item.now.path ≡ false) }
     ensures file { OnOk result (PutsItem root.now item.now (M.nodes maker.old) (M.nodes maker.new)) }
+    ensures folder { OnOk result (MakesFolder root.now item.now (M.nodes maker.new)) }
     ensures bytes { IfOk result (λ bytes. bytes ≡ item.now.bytes) }
     ensures changed { result ≡ Err why.Changed → ⊥ }
     ensures lost { result ≡ Err why.NoDriveLeft → ⊥ }
@@ -100,6 +102,7 @@ fn write_other<M: Remover>(
 }
 
 /// Puts the item on disk, as its type requires, with its bytes as they are read again.
+#[tactic(auto, using(crate::proofs::WayLaws::no_folder_put))]
 pub(crate) fn put_item<M: Remover, P: Parts>(
     alloc: Global,
     maker: &mut M,
@@ -110,6 +113,7 @@ pub(crate) fn put_item<M: Remover, P: Parts>(
     ensures text { OnOk result (is_on_disk item.now.kind ≡ true → IsUtf8 item.now.path) }
     ensures name { OnOk result (has_bytes item.now.kind ≡ true → is_directory item.now.path ≡ false) }
     ensures file { IfOk result (λ bytes. PutsItem root.now (with_bytes item.now bytes) (M.nodes maker.old) (M.nodes maker.new)) }
+    ensures folder { OnOk result (MakesFolder root.now item.now (M.nodes maker.new)) }
     ensures alike { IfOk result (λ bytes. AreAlike bytes item.now.bytes) }
     ensures same { IfOk result (λ bytes. P.gives parts.old item.now → bytes ≡ item.now.bytes) }
     ensures changed { result ≡ Err why.Changed → P.gives parts.old item.now → ⊥ }

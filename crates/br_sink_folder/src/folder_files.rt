@@ -7,7 +7,8 @@ ghost use Rattle.br_sink.specs.Delivery.{IsStopBelow, items_in};
 ghost use Rattle.br_sink_folder.specs.Below.{AddsFolders, KeepsOutside};
 ghost use Rattle.br_sink_folder.specs.FolderSink.{HasName, HasText, is_on_disk};
 ghost use Rattle.br_sink_folder.specs.Held.{HoldsFile, HoldsMore, IsNew, LeavesFiles, LeavesMore, MakesOne};
-ghost use Rattle.br_sink_folder.specs.Stopped.{LeavesAtStop, StopsFile, StopsMore};
+ghost use Rattle.br_sink_folder.specs.Stopped.{IsLeftAfter, LeavesAtStop, StopsFile, StopsMore};
+ghost use Rattle.br_sink_folder.specs.Way.{MakesFolders};
 ghost use Rattle.br_sink_folder.specs.Window.{AreBelow};
 
 use crate::below_folder::make_file;
@@ -77,7 +78,7 @@ fn hold<'i, W: Write + Drop, M: FileMaker<New = W>>(
 }
 
 /// Writes the files of the window, and then the item.
-#[tactic(auto, using(crate::proofs::BelowLaws::outside_more, crate::proofs::HeldLaws::leaves_item))]
+#[tactic(auto, using(crate::proofs::BelowLaws::outside_more, crate::proofs::HeldLaws::leaves_all))]
 fn put_alone<'i, W: Write + Drop, M: ManyWriter<New = W>>(
     maker: &mut M,
     root: &str,
@@ -90,7 +91,7 @@ fn put_alone<'i, W: Write + Drop, M: ManyWriter<New = W>>(
     ensures stopped { (n : ℕ) → AreBelow n window.old.made.items → place < n → IfErr result (IsStopBelow n) }
     ensures left { LeavesMore (IsNew W.contents root.now) root.now item.now window.old.made.items (M.nodes maker.old)
         (M.nodes maker.new) result }
-    ensures before { StopsMore (IsNew W.contents root.now) root.now item.now place window.old.made.items (M.nodes maker.old)
+    ensures before { StopsMore M.is_refused W.contents root.now item.now place window.old.made.items (M.nodes maker.old)
         (M.nodes maker.new) result }
     ensures empty { window.new.made.items ≡ [] }
     ensures text { OnOk result (is_on_disk item.now.kind ≡ true → IsUtf8 item.now.path) }
@@ -120,7 +121,7 @@ fn put_file<'i, W: Write + Drop, M: ManyWriter<New = W>>(
     ensures below { (n : ℕ) → AreBelow n window.old.made.items → place < n → OnOk result (AreBelow n window.new.made.items) }
     ensures held { HoldsFile W.contents root.now item.now place window.old.made.items window.new.made.items (M.nodes maker.old)
         (M.nodes maker.new) result }
-    ensures before { StopsFile (IsNew W.contents root.now) root.now item.now place window.old.made.items (M.nodes maker.old)
+    ensures before { StopsFile M.is_refused W.contents root.now item.now place window.old.made.items (M.nodes maker.old)
         (M.nodes maker.new) result }
     ensures text { OnOk result (is_on_disk item.now.kind ≡ true → IsUtf8 item.now.path) }
     ensures name { OnOk result (has_bytes item.now.kind ≡ true → is_directory item.now.path ≡ false) }
@@ -133,7 +134,7 @@ fn put_file<'i, W: Write + Drop, M: ManyWriter<New = W>>(
 }
 
 /// Puts the item on disk, or holds it in the window, as its type requires.
-#[tactic(auto, using(crate::proofs::BelowLaws::outside_same, crate::proofs::HeldLaws::over_without, crate::proofs::HeldLaws::over_again))]
+#[tactic(auto, using(crate::proofs::BelowLaws::outside_same, crate::proofs::HeldLaws::over_other, crate::proofs::HeldLaws::over_again))]
 fn put_next<'i, W: Write + Drop, M: ManyWriter<New = W>>(
     maker: &mut M,
     root: &str,
@@ -148,7 +149,7 @@ fn put_next<'i, W: Write + Drop, M: ManyWriter<New = W>>(
     ensures below { (n : ℕ) → AreBelow n window.old.made.items → place < n → OnOk result (AreBelow n window.new.made.items) }
     ensures held { HoldsMore W.contents root.now item.now place window.old.made.items window.new.made.items (M.nodes maker.old)
         (M.nodes maker.new) result }
-    ensures before { StopsMore (IsNew W.contents root.now) root.now item.now place window.old.made.items (M.nodes maker.old)
+    ensures before { StopsMore M.is_refused W.contents root.now item.now place window.old.made.items (M.nodes maker.old)
         (M.nodes maker.new) result }
     ensures text { OnOk result (is_on_disk item.now.kind ≡ true → IsUtf8 item.now.path) }
     ensures name { OnOk result (has_bytes item.now.kind ≡ true → is_directory item.now.path ≡ false) }
@@ -174,7 +175,9 @@ pub(crate) fn put_each<W: Write + Drop, M: ManyWriter<New = W>>(
     ensures text { OnOk result (All HasText (items_in outcomes.now)) }
     ensures name { OnOk result (All HasName (items_in outcomes.now)) }
     ensures files { OnOk result (LeavesFiles root.now (items_in outcomes.now) (M.nodes maker.old) (M.nodes maker.new)) }
+    ensures folders { OnOk result (MakesFolders root.now (items_in outcomes.now) (M.nodes maker.new)) }
     ensures before { IfErr result (LeavesAtStop root.now (items_in outcomes.now) (M.nodes maker.old) (M.nodes maker.new)) }
+    ensures after { IfErr result (IsLeftAfter M.is_refused root.now (items_in outcomes.now) (M.nodes maker.old) (M.nodes maker.new)) }
     ensures outside { KeepsOutside root.now (M.nodes maker.old) (M.nodes maker.new) }
 {
     let mut window = Window::new(alloc);

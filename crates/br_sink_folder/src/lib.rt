@@ -28,5 +28,6 @@ pub use folder_sink::FolderSink;
 pub use known_paths::{Known, known_of};
 pub use other_lines::push_others;
 pub use other_paths::others_in;
+pub use remover::Remover;
 pub use resume::Resuming;
 pub use window::{Made, ManyWriter};

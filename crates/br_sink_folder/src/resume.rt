@@ -12,10 +12,11 @@ ghost use Rattle.br_sink.specs.declared.file_parts.PartsFault.TheVariants as why
 ghost use Rattle.br_sink_folder.specs.Below.{KeepsOutside};
 ghost use Rattle.br_sink_folder.specs.Fault.{IsRefused};
 ghost use Rattle.br_sink_folder.specs.Held.{LeavesFiles};
-ghost use Rattle.br_sink_folder.specs.Removed.{ChangesOne};
+ghost use Rattle.br_sink_folder.specs.Removed.{ChangesOne, GivesUp};
 ghost use Rattle.br_sink_folder.specs.There.{IsNotThere};
 ghost use Rattle.br_sink_folder.specs.TwoFiles.{LeavesTwo};
-ghost use Rattle.br_sink_folder.specs.Resuming.{KeepsWhole, LeavesLike, LeavesLikeAtStop, PutsBytes, PutsLike, StaysThere};
+ghost use Rattle.br_sink_folder.specs.Resuming.{IsLikeAfter, KeepsWhole, LeavesLike, LeavesLikeAtStop, PutsBytes, PutsLike, StaysThere};
+ghost use Rattle.br_sink_folder.specs.Way.{MakesFolder, MakesFolders};
 ghost use Rattle.br_types.specs.declared.wanted.Start.TheVariants.{Empty, Resumed};
 
 use crate::fault::FolderFault;
@@ -113,8 +114,11 @@ impl<M: ManyWriter + Comparer + Drop> Sink for Resuming<M> {
         ensures failed { result ≡ Err Fault → self.old.folder.failures < self.new.folder.failures }
         ensures path { self.new.folder.path ≡ self.old.folder.path }
         ensures file { OnOk result (PutsLike self.old.folder.path item.now self.old.folder.nodes self.new.folder.nodes) }
+        ensures folder { OnOk result (MakesFolder self.old.folder.path item.now self.new.folder.nodes) }
         ensures stays { StaysThere self.old.start self.old.folder.path item.now self.old.folder.nodes self.new.folder.nodes }
         ensures rest { ChangesOne self.old.folder.path (self.old.folder.path ++ item.now.path) self.old.folder.nodes self.new.folder.nodes }
+        ensures removed { OnErr result (GivesUp M.is_refused self.old.folder.path item.now.path self.old.folder.nodes
+            self.new.folder.nodes) }
         ensures outside { KeepsOutside self.old.folder.path self.old.folder.nodes self.new.folder.nodes }
     {
         match self.start {
@@ -125,7 +129,7 @@ impl<M: ManyWriter + Comparer + Drop> Sink for Resuming<M> {
 
     /// Puts each of the files, as `put` does: one after another if the delivery is resumed, else as
     /// the sink over the folder puts them.
-    #[tactic(auto, using(crate::proofs::LikeLaws::leaves_same, crate::proofs::LikeLaws::stops_same))]
+    #[tactic(auto, using(crate::proofs::LikeLaws::leaves_same, crate::proofs::LikeLaws::after_same, crate::proofs::LikeLaws::stops_same))]
     fn put_all<R: Threads + Sync>(
         &mut self,
         threads: &R,
@@ -138,9 +142,11 @@ impl<M: ManyWriter + Comparer + Drop> Sink for Resuming<M> {
         ensures failed { IfErr result (λ stop. stop.number ≡ 80 → self.old.folder.failures < self.new.folder.failures) }
         ensures path { self.new.folder.path ≡ self.old.folder.path }
         ensures files { OnOk result (LeavesLike self.old.folder.path (items_in outcomes.now) self.old.folder.nodes self.new.folder.nodes) }
+        ensures folders { OnOk result (MakesFolders self.old.folder.path (items_in outcomes.now) self.new.folder.nodes) }
         ensures whole { self.old.start ≡ Empty
             → OnOk result (LeavesFiles self.old.folder.path (items_in outcomes.now) self.old.folder.nodes self.new.folder.nodes) }
         ensures before { IfErr result (LeavesLikeAtStop self.old.folder.path (items_in outcomes.now) self.old.folder.nodes self.new.folder.nodes) }
+        ensures after { IfErr result (IsLikeAfter M.is_refused (items_in outcomes.now) self.old.folder self.new.folder) }
         ensures stays { self.old.start ≡ Resumed
             → KeepsWhole self.old.folder.path (items_in outcomes.now) self.old.folder.nodes self.new.folder.nodes }
         ensures outside { KeepsOutside self.old.folder.path self.old.folder.nodes self.new.folder.nodes }
@@ -171,6 +177,7 @@ impl<M: ManyWriter + Comparer + Drop> Sink for Resuming<M> {
         ensures on { P.goes_on parts.old parts.new }
         ensures path { self.new.folder.path ≡ self.old.folder.path }
         ensures file { OnOk result (PutsLike self.old.folder.path item.now self.old.folder.nodes self.new.folder.nodes) }
+        ensures folder { OnOk result (MakesFolder self.old.folder.path item.now self.new.folder.nodes) }
         ensures whole { self.old.start ≡ Empty
             → IfOk result (λ bytes. PutsBytes self.old.folder.path item.now bytes self.old.folder.nodes self.new.folder.nodes) }
         ensures stays { StaysThere self.old.start self.old.folder.path item.now self.old.folder.nodes self.new.folder.nodes }

@@ -1,14 +1,15 @@
 //! Puts files into a folder that may hold some of them.
-ghost use Rattle.std.specs.Prelude.{◌≡◌, ◌++◌, ◌<◌, ◌≤◌, true, false, length, IfOk, OnOk, IfErr, Err};
+ghost use Rattle.std.specs.Prelude.{◌≡◌, ◌++◌, ◌<◌, ◌≤◌, true, false, length, IfOk, OnErr, OnOk, IfErr, Err};
 ghost use Rattle.br_model.specs.File.{has_bytes};
 ghost use Rattle.br_sink.specs.Delivery.{IsStopBelow, items_in};
 ghost use Rattle.br_sink.specs.FileParts.{AreAlike};
 ghost use Rattle.br_sink.specs.declared.fault.SinkFault.TheVariants.{Fault};
 ghost use Rattle.br_sink.specs.declared.file_parts.PartsFault.TheVariants as why;
 ghost use Rattle.br_sink_folder.specs.Below.{AddsFolders, KeepsOutside};
-ghost use Rattle.br_sink_folder.specs.Removed.{ChangesOne};
+ghost use Rattle.br_sink_folder.specs.Removed.{ChangesOne, GivesUp};
 ghost use Rattle.br_sink_folder.specs.There.{IsThere};
-ghost use Rattle.br_sink_folder.specs.Resuming.{KeepsWhole, LeavesLike, LeavesLikeAtStop, PutsLike};
+ghost use Rattle.br_sink_folder.specs.Resuming.{IsLikeAfter, KeepsWhole, LeavesLike, LeavesLikeAtStop, PutsLike};
+ghost use Rattle.br_sink_folder.specs.Way.{MakesFolder, MakesFolders};
 
 use crate::folder_sink::FolderSink;
 use crate::window::ManyWriter;
@@ -19,7 +20,7 @@ use br_types::FileKey;
 use std::alloc::Global;
 
 /// Puts a file, unless it is there already. One that differs is removed, and made anew.
-#[tactic(auto, using(crate::proofs::LikeLaws::puts_there, crate::proofs::LikeLaws::puts_after, crate::proofs::LikeLaws::outside_after, crate::proofs::LikeLaws::outside_only, crate::proofs::LikeLaws::adds_both, crate::proofs::LikeLaws::stays_there, crate::proofs::LikeLaws::changes_only))]
+#[tactic(auto, using(crate::proofs::LikeLaws::puts_there, crate::proofs::LikeLaws::puts_after, crate::proofs::LikeLaws::outside_after, crate::proofs::LikeLaws::outside_only, crate::proofs::LikeLaws::adds_both, crate::proofs::LikeLaws::stays_there, crate::proofs::LikeLaws::changes_only, crate::proofs::LikeLaws::gives_only))]
 pub(crate) fn put_missing<M: ManyWriter + Comparer + Drop>(
     sink: &mut FolderSink<M>,
     item: &Item,
@@ -28,10 +29,12 @@ pub(crate) fn put_missing<M: ManyWriter + Comparer + Drop>(
     ensures failed { result ≡ Err Fault → sink.old.failures < sink.new.failures }
     ensures path { sink.new.path ≡ sink.old.path }
     ensures file { OnOk result (PutsLike sink.old.path item.now sink.old.nodes sink.new.nodes) }
+    ensures folder { OnOk result (MakesFolder sink.old.path item.now sink.new.nodes) }
     ensures stays { has_bytes item.now.kind ≡ true → IsThere sink.old.path item.now sink.old.nodes
         → AddsFolders sink.old.path sink.old.nodes sink.new.nodes }
     ensures folders { has_bytes item.now.kind ≡ false → AddsFolders sink.old.path sink.old.nodes sink.new.nodes }
     ensures rest { ChangesOne sink.old.path (sink.old.path ++ item.now.path) sink.old.nodes sink.new.nodes }
+    ensures removed { OnErr result (GivesUp M.is_refused sink.old.path item.now.path sink.old.nodes sink.new.nodes) }
     ensures outside { KeepsOutside sink.old.path sink.old.nodes sink.new.nodes }
 {
     if sink.is_put(item)? {
@@ -59,6 +62,7 @@ pub(crate) fn put_missing_parts<M: ManyWriter + Comparer + Drop, P: Parts>(
     ensures failed { result ≡ Err why.Fault → sink.old.failures < sink.new.failures }
     ensures path { sink.new.path ≡ sink.old.path }
     ensures file { OnOk result (PutsLike sink.old.path item.now sink.old.nodes sink.new.nodes) }
+    ensures folder { OnOk result (MakesFolder sink.old.path item.now sink.new.nodes) }
     ensures stays { has_bytes item.now.kind ≡ true → IsThere sink.old.path item.now sink.old.nodes
         → AddsFolders sink.old.path sink.old.nodes sink.new.nodes }
     ensures folders { has_bytes item.now.kind ≡ false → AddsFolders sink.old.path sink.old.nodes sink.new.nodes }
@@ -84,7 +88,9 @@ pub(crate) fn put_each<M: ManyWriter + Comparer + Drop>(
     ensures failed { IfErr result (λ stop. stop.number ≡ 80 → sink.old.failures < sink.new.failures) }
     ensures path { sink.new.path ≡ sink.old.path }
     ensures files { OnOk result (LeavesLike sink.old.path (items_in outcomes.now) sink.old.nodes sink.new.nodes) }
+    ensures folders { OnOk result (MakesFolders sink.old.path (items_in outcomes.now) sink.new.nodes) }
     ensures before { IfErr result (LeavesLikeAtStop sink.old.path (items_in outcomes.now) sink.old.nodes sink.new.nodes) }
+    ensures after { IfErr result (IsLikeAfter M.is_refused (items_in outcomes.now) sink.old sink.new) }
     ensures stays { KeepsWhole sink.old.path (items_in outcomes.now) sink.old.nodes sink.new.nodes }
     ensures outside { KeepsOutside sink.old.path sink.old.nodes sink.new.nodes }
 {

@@ -6,6 +6,7 @@ ghost use Rattle.br_model.specs.Name.{is_directory};
 ghost use Rattle.br_sink_folder.specs.Below.{AddsFolders, KeepsOutside, PutsBelow};
 ghost use Rattle.br_sink_folder.specs.FolderSink.{PutsItem, is_on_disk};
 ghost use Rattle.br_sink_folder.specs.Removed.{ChangesOne, GivesUp};
+ghost use Rattle.br_sink_folder.specs.Way.{MakesFolder};
 
 use crate::below_folder::{folder_below, make_anew, make_way, write_made};
 use crate::remover::{Remover, take_back};
@@ -44,7 +45,7 @@ fn write_file<M: Remover>(
 }
 
 /// Makes the folder, and those on its way.
-#[tactic(auto, using(crate::proofs::BelowLaws::adds_same))]
+#[tactic(auto, using(crate::proofs::BelowLaws::adds_same, crate::proofs::WayLaws::way_of_folder))]
 fn write_folder<M: FileMaker>(
     alloc: Global,
     maker: &mut M,
@@ -52,6 +53,7 @@ fn write_folder<M: FileMaker>(
     item: &Item,
 ) -> Result<(), SinkFault>
     ensures text { OnOk result (IsUtf8 item.now.path) }
+    ensures folder { OnOk result (MakesFolder root.now item.now (M.nodes maker.new)) }
     ensures added { AddsFolders root.now (M.nodes maker.old) (M.nodes maker.new) }
 {
     let text = text_of(item)?;
@@ -60,7 +62,7 @@ fn write_folder<M: FileMaker>(
 }
 
 /// Puts the item on disk, as its type requires.
-#[tactic(auto, using(crate::proofs::BelowLaws::outside_added, crate::proofs::BelowLaws::outside_same, crate::proofs::RemovalLaws::gives_added, crate::proofs::RemovalLaws::changes_added, crate::proofs::RemovalLaws::changes_same))]
+#[tactic(auto, using(crate::proofs::BelowLaws::outside_added, crate::proofs::BelowLaws::outside_same, crate::proofs::RemovalLaws::gives_added, crate::proofs::RemovalLaws::changes_added, crate::proofs::RemovalLaws::changes_same, crate::proofs::WayLaws::no_folder_put))]
 pub(crate) fn write_item<M: Remover>(
     alloc: Global,
     maker: &mut M,
@@ -71,6 +73,7 @@ pub(crate) fn write_item<M: Remover>(
     ensures text { OnOk result (is_on_disk item.now.kind ≡ true → IsUtf8 item.now.path) }
     ensures name { OnOk result (has_bytes item.now.kind ≡ true → is_directory item.now.path ≡ false) }
     ensures file { OnOk result (PutsItem root.now item.now (M.nodes maker.old) (M.nodes maker.new)) }
+    ensures folder { OnOk result (MakesFolder root.now item.now (M.nodes maker.new)) }
     ensures folders { has_bytes item.now.kind ≡ false → AddsFolders root.now (M.nodes maker.old) (M.nodes maker.new) }
     ensures removed { OnErr result (GivesUp M.is_refused root.now item.now.path (M.nodes maker.old) (M.nodes maker.new)) }
     ensures nothing { is_on_disk item.now.kind ≡ false → M.nodes maker.new ≡ M.nodes maker.old }

@@ -9,7 +9,7 @@ ghost use Rattle.br_sink_folder.specs.Held.{AppendsSome, AreAnswered, FinishesHe
 ghost use Rattle.br_sink_folder.specs.Held.{FinishesSome, HoldsStill, IsNew, IsWritten, LeavesHeld};
 ghost use Rattle.br_sink_folder.specs.Held.{AppendsFrontSome, Rise, WritesEach, WritesOne};
 ghost use Rattle.br_sink_folder.specs.Removed.{AreRemoved, AreRemovedFrom, ChangesOne, IsRemoved, MakesNoFile, files_of};
-ghost use Rattle.br_sink_folder.specs.Stopped.{AnsweredBefore, KeepsBefore, StopsHeld};
+ghost use Rattle.br_sink_folder.specs.Stopped.{AnsweredBefore, KeepsBefore, StopsAtOne, StopsHeld};
 ghost use Rattle.br_sink_folder.specs.Window.{AreBelow};
 
 use crate::below_folder::{finish, write_fault};
@@ -146,7 +146,7 @@ fn thread_count(bytes: u64) -> usize
 /// A maker of files that defines how several of its new files are written. A method of a trait
 /// can't send to threads what it knows only by its bounds, so each maker defines it for its own
 /// files.
-pub trait ManyWriter: FileMaker {
+pub trait ManyWriter: Remover {
     /// Writes the files, in this number of threads.
     fn write_each<T: Threads + Sync>(threads: &T, made: &mut [Made<'_, Self::New>], count: usize)
         requires threads { IsSync T.row }
@@ -240,6 +240,7 @@ fn remove_from<W: Write + Drop, M: Remover<New = W>>(
 fn settle<W: Write + Drop>(made: &[Made<'_, W>]) -> Result<(), SinkStop>
     ensures stopped { (n : ℕ) → AreBelow n made.now → IfErr result (IsStopBelow n) }
     ensures answered { OnOk result (AreAnswered made.now) }
+    ensures one { IfErr result (StopsAtOne made.now) }
     ensures first { Rise (files_of made.now) → IfErr result (AnsweredBefore made.now) }
 {
     for one in made {
@@ -261,7 +262,8 @@ fn close_all<W: Write + Drop, M: Remover<New = W>>(
 ) -> Result<(), SinkStop>
     ensures stopped { (n : ℕ) → AreBelow n made.old → IfErr result (IsStopBelow n) }
     ensures left { LeavesHeld (IsWritten W.contents root.now) root.now made.old (M.nodes maker.old) (M.nodes maker.new) result }
-    ensures before { StopsHeld (IsWritten W.contents root.now) root.now made.old (M.nodes maker.old) (M.nodes maker.new) result }
+    ensures before { StopsHeld M.is_refused (IsWritten W.contents root.now) root.now made.old (M.nodes maker.old)
+        (M.nodes maker.new) result }
     ensures removed { IfErr result (AreRemovedFrom M.is_refused root.now (files_of made.old) (M.nodes maker.new)) }
     ensures outside { KeepsOutside root.now (M.nodes maker.old) (M.nodes maker.new) }
 {
@@ -277,7 +279,7 @@ fn close_all<W: Write + Drop, M: Remover<New = W>>(
 
 /// Writes the files, in this number of threads, and closes them.
 #[tactic(auto, using(crate::proofs::HeldLaws::over_written))]
-fn write_and_close<W: Write + Drop, M: ManyWriter<New = W> + Remover, T: Threads + Sync>(
+fn write_and_close<W: Write + Drop, M: ManyWriter<New = W>, T: Threads + Sync>(
     alloc: Global,
     maker: &mut M,
     threads: &T,
@@ -288,7 +290,7 @@ fn write_and_close<W: Write + Drop, M: ManyWriter<New = W> + Remover, T: Threads
     requires { 0 < count }
     ensures stopped { (n : ℕ) → AreBelow n made.old → IfErr result (IsStopBelow n) }
     ensures left { LeavesHeld (IsNew W.contents root.now) root.now made.old (M.nodes maker.old) (M.nodes maker.new) result }
-    ensures before { StopsHeld (IsNew W.contents root.now) root.now made.old (M.nodes maker.old) (M.nodes maker.new) result }
+    ensures before { StopsHeld M.is_refused (IsNew W.contents root.now) root.now made.old (M.nodes maker.old) (M.nodes maker.new) result }
     ensures removed { IfErr result (AreRemovedFrom M.is_refused root.now (files_of made.old) (M.nodes maker.new)) }
     ensures outside { KeepsOutside root.now (M.nodes maker.old) (M.nodes maker.new) }
 {
@@ -349,7 +351,7 @@ impl<'i, W: Write + Drop> Window<'i, W> {
 
     /// Writes all files and closes them, and holds none. Stops at the first that could not be
     /// written; it and those after it are removed again.
-    pub(crate) fn write<M: ManyWriter<New = W> + Remover, T: Threads + Sync>(
+    pub(crate) fn write<M: ManyWriter<New = W>, T: Threads + Sync>(
         &mut self,
         maker: &mut M,
         threads: &T,
@@ -358,7 +360,8 @@ impl<'i, W: Write + Drop> Window<'i, W> {
         requires most { length self.old.made.items ≤ 16 }
         ensures stopped { (n : ℕ) → AreBelow n self.old.made.items → IfErr result (IsStopBelow n) }
         ensures left { LeavesHeld (IsNew W.contents root.now) root.now self.old.made.items (M.nodes maker.old) (M.nodes maker.new) result }
-        ensures before { StopsHeld (IsNew W.contents root.now) root.now self.old.made.items (M.nodes maker.old) (M.nodes maker.new) result }
+        ensures before { StopsHeld M.is_refused (IsNew W.contents root.now) root.now self.old.made.items (M.nodes maker.old)
+            (M.nodes maker.new) result }
         ensures removed { IfErr result (AreRemovedFrom M.is_refused root.now (files_of self.old.made.items) (M.nodes maker.new)) }
         ensures empty { self.new.made.items ≡ [] }
         ensures outside { KeepsOutside root.now (M.nodes maker.old) (M.nodes maker.new) }
@@ -385,7 +388,8 @@ impl<'i, W: Write + Drop> Window<'i, W> {
         ensures below { (n : ℕ) → AreBelow n self.old.made.items → OnOk result (AreBelow n self.new.made.items) }
         ensures held { HoldsStill W.contents root.now self.old.made.items self.new.made.items (M.nodes maker.old)
             (M.nodes maker.new) result }
-        ensures before { StopsHeld (IsNew W.contents root.now) root.now self.old.made.items (M.nodes maker.old) (M.nodes maker.new) result }
+        ensures before { StopsHeld M.is_refused (IsNew W.contents root.now) root.now self.old.made.items (M.nodes maker.old)
+            (M.nodes maker.new) result }
         ensures outside { KeepsOutside root.now (M.nodes maker.old) (M.nodes maker.new) }
     {
         if self.is_full() {

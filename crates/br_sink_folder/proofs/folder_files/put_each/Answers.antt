@@ -7,9 +7,9 @@ use Rattle.std.proofs.lemmas.List.Elements.{All-push}
 use Rattle.br_sink_folder.specs.FolderSink.{HasName, HasText}
 use Rattle.br_sink.proofs.DeliveryLaws.{items_at, items_file, items_fault, items_one_more, some_behind}
 use Rattle.br_sink_folder.proofs.BelowLaws.{outside_more, outside_same}
-use Rattle.br_sink_folder.proofs.HeldLaws.{leaves_nothing, over_again}
+use Rattle.br_sink_folder.proofs.HeldLaws.{all_nothing, files_of_all, folders_of_all, over_again}
 use Rattle.br_sink_folder.proofs.WindowLaws.{below_more, on_ok_known}
-use Rattle.br_sink_folder.proofs.StopLaws.{stops_within}
+use Rattle.br_sink_folder.proofs.StopLaws.{after_of, before_of, stops_within}
 use Rattle.br_sink_folder.proofs.folder_files.put_each.Goals as goal
 use Rattle.br_sink_folder.proofs.folder_files.put_each.Goals.{in-File+in_ok-put_next, in_default}
 
@@ -40,9 +40,30 @@ returns-in_err-put_next-clause-before g c =
     let below = below_more c.loop-outcome.done next c.loop-outcome.window.made.items (omega arith) l.below in
     let nodes = g.M.FileMaker.nodes c.args.maker.now in
     let p = err_from_is_err_and c.from_residual.result c.from_residual.ensures.1 in
-    rw (p.1, p.2)
-    (stops_within c.args.root.now (items_in os) before rest item _ nodes (g.M.FileMaker.nodes c.put_next.new.maker) next around (omega (arith, l.done))
-    (c.in_err-put_next.ensures.stopped next below (omega arith)) (c.in_err-put_next.ensures.before before nodes l.done l.below l.held))
+    let left =
+    stops_within g.M.Remover.is_refused c.args.root.now (items_in os) before rest item _ nodes (g.M.FileMaker.nodes c.put_next.new.maker) next around
+    (omega (arith, l.done)) (c.in_err-put_next.ensures.stopped next below (omega arith))
+    (c.in_err-put_next.ensures.before before nodes l.done l.below l.held) in
+    rw (p.1, p.2) left.before
+
+pub returns-in_err-put_next-clause-after : goal.returns-in_err-put_next-clause-after
+returns-in_err-put_next-clause-after g c =
+    let os = c.args.outcomes.now in
+    let i : ℕ = c.loop-outcome.outcome-index in
+    let l = c.loop-outcome.invariant in
+    let item : Item = c.in-File.item in
+    let before : List Item = items_in (take i os) in
+    let rest : List Item = items_in (drop (i + 1) os) in
+    let around = items_at os i c.loop-outcome-item.result item c.loop-outcome-test.true c.loop-outcome-item.is c.in-File.is in
+    let next : ℕ = c.loop-outcome.done + 1 in
+    let below = below_more c.loop-outcome.done next c.loop-outcome.window.made.items (omega arith) l.below in
+    let nodes = g.M.FileMaker.nodes c.args.maker.now in
+    let p = err_from_is_err_and c.from_residual.result c.from_residual.ensures.1 in
+    let left =
+    stops_within g.M.Remover.is_refused c.args.root.now (items_in os) before rest item _ nodes (g.M.FileMaker.nodes c.put_next.new.maker) next around
+    (omega (arith, l.done)) (c.in_err-put_next.ensures.stopped next below (omega arith))
+    (c.in_err-put_next.ensures.before before nodes l.done l.below l.held) in
+    rw (p.1, p.2) left.after
 
 pub loop-outcome-preserved : goal.loop-outcome-preserved
 loop-outcome-preserved g c =
@@ -94,7 +115,7 @@ loop-outcome-init g c =
       below = rw c.new-window.ensures (λ k d less. absurd (omega (arith, less)));
       room = rw c.new-window.ensures (omega arith);
       outside = outside_same _ _ _ refl;
-      held = over_again g.W.Write.contents c.args.root.now [] c.new-window.result.made.items nodes nodes c.new-window.ensures (leaves_nothing c.args.root.now nodes);
+      held = over_again g.W.Write.contents c.args.root.now [] c.new-window.result.made.items nodes nodes c.new-window.ensures (all_nothing c.args.root.now nodes);
       text = λ k d less. absurd (omega (arith, less));
       name = λ k d less. absurd (omega (arith, less));
     }
@@ -103,13 +124,33 @@ pub returns-clause-files : goal.returns-clause-files
 returns-clause-files g c =
     let os = c.args.outcomes.now in
     let all : take c.loop-outcome.outcome-index os ≡ os = take_all c.loop-outcome.outcome-index os c.loop-outcome-test.false in
-    rw all at (c.write.ensures.left (items_in (take c.loop-outcome.outcome-index os)) (g.M.FileMaker.nodes c.args.maker.now) c.loop-outcome.invariant.held)
+    let nodes = g.M.FileMaker.nodes c.args.maker.now in
+    files_of_all c.write.result c.args.root.now (items_in os) nodes (g.M.FileMaker.nodes c.write.new.maker)
+    (rw all at (c.write.ensures.left (items_in (take c.loop-outcome.outcome-index os)) nodes c.loop-outcome.invariant.held))
+
+pub returns-clause-folders : goal.returns-clause-folders
+returns-clause-folders g c =
+    let os = c.args.outcomes.now in
+    let all : take c.loop-outcome.outcome-index os ≡ os = take_all c.loop-outcome.outcome-index os c.loop-outcome-test.false in
+    let nodes = g.M.FileMaker.nodes c.args.maker.now in
+    folders_of_all c.write.result c.args.root.now (items_in os) nodes (g.M.FileMaker.nodes c.write.new.maker)
+    (rw all at (c.write.ensures.left (items_in (take c.loop-outcome.outcome-index os)) nodes c.loop-outcome.invariant.held))
 
 pub returns-clause-before : goal.returns-clause-before
 returns-clause-before g c =
     let os = c.args.outcomes.now in
     let all : take c.loop-outcome.outcome-index os ≡ os = take_all c.loop-outcome.outcome-index os c.loop-outcome-test.false in
-    rw all at (c.write.ensures.before (items_in (take c.loop-outcome.outcome-index os)) (g.M.FileMaker.nodes c.args.maker.now) c.loop-outcome.invariant.held)
+    let nodes = g.M.FileMaker.nodes c.args.maker.now in
+    before_of c.write.result g.M.Remover.is_refused c.args.root.now (items_in os) nodes (g.M.FileMaker.nodes c.write.new.maker)
+    (rw all at (c.write.ensures.before (items_in (take c.loop-outcome.outcome-index os)) nodes c.loop-outcome.invariant.held))
+
+pub returns-clause-after : goal.returns-clause-after
+returns-clause-after g c =
+    let os = c.args.outcomes.now in
+    let all : take c.loop-outcome.outcome-index os ≡ os = take_all c.loop-outcome.outcome-index os c.loop-outcome-test.false in
+    let nodes = g.M.FileMaker.nodes c.args.maker.now in
+    after_of c.write.result g.M.Remover.is_refused c.args.root.now (items_in os) nodes (g.M.FileMaker.nodes c.write.new.maker)
+    (rw all at (c.write.ensures.before (items_in (take c.loop-outcome.outcome-index os)) nodes c.loop-outcome.invariant.held))
 
 pub returns-clause-text : goal.returns-clause-text
 returns-clause-text g c =

@@ -1,17 +1,17 @@
-use Rattle.std.proofs.Common.{◌≡◌, ℕ, ◌+◌, List, [], ◌∷◌, ◌++◌, take, drop, length, refl, ap, sym, subst, ◌∙◌, arith, append-nil, append_assoc, length-append, true, false, Err, Option}
-use Rattle.std.proofs.lemmas.List.{take_all}
+use Rattle.std.proofs.Common.{◌≡◌, ℕ, ◌+◌, List, [], ◌∷◌, ◌++◌, take, drop, length, refl, ap, sym, subst, ◌∙◌, arith, append-nil, append_assoc, length-append, true, false, Err}
 use Rattle.br_model.specs.Delivery.{Stop}
 use Rattle.br_model.specs.File.{Item, has_bytes}
-use Rattle.br_fs.specs.Making.{Nodes}
 use Rattle.br_sink.specs.Delivery.{IsStopBelow, items_in}
 use Rattle.br_sink.specs.Fault.{fault_number}
 use Rattle.br_sink.proofs.DeliveryLaws.{items_at, items_file, items_fault, items_one_more, one_stops, fault_at_80}
 use Rattle.br_sink_folder.specs.Below.{AddsFolders, KeepsOutside}
 use Rattle.br_sink_folder.proofs.BelowLaws.{outside_same}
-use Rattle.br_sink_folder.specs.Removed.{ChangesOne}
-use Rattle.br_sink_folder.specs.Resuming.{KeepsWhole, LeavesLike, PutsLike}
+use Rattle.br_sink_folder.specs.Removed.{ChangesOne, GivesUp}
+use Rattle.br_sink_folder.specs.Resuming.{KeepsWhole, PutsLike}
 use Rattle.br_sink_folder.specs.There.{IsThere}
-use Rattle.br_sink_folder.proofs.LikeLaws.{keeps_more, keeps_nothing, keeps_rest, leaves_more, leaves_none, outside_both, stops_like}
+use Rattle.br_sink_folder.specs.Way.{MakesFolder}
+use Rattle.br_sink_folder.proofs.WayLaws.{folders_more, stay_like}
+use Rattle.br_sink_folder.proofs.LikeLaws.{after_like, keeps_more, keeps_nothing, keeps_rest, leaves_more, leaves_none, outside_both, stops_like}
 use Rattle.br_sink_folder.proofs.resumed_delivery.put_each.Goals as goal
 use Rattle.br_sink_folder.proofs.resumed_delivery.put_each.Goals.{in-File+in_default-put_missing, in_default}
 
@@ -53,6 +53,21 @@ returns-in-Err-clause-before g c =
     around (ap (λ (stop : Stop). stop.done) c.of_sink.ensures ∙ l.done) l.files
     (subst (λ (p : List ℕ). ChangesOne p (p ++ item.path) middle after) l.path c.put_missing.ensures.rest)
 
+pub returns-in-Err-clause-after : goal.returns-in-Err-clause-after
+returns-in-Err-clause-after g c =
+    let os = c.args.outcomes.now in
+    let i : ℕ = c.loop-outcome.outcome-index in
+    let l = c.loop-outcome.invariant in
+    let item : Item = c.in-File.item in
+    let around = items_at os i c.loop-outcome-item.result item c.loop-outcome-test.true c.loop-outcome-item.is c.in-File.is in
+    let refused = g.M.Remover.is_refused in
+    let middle = c.loop-outcome.sink.nodes in
+    let after = c.put_missing.new.sink.nodes in
+    after_like refused (items_in os) (items_in (take i os)) (items_in (drop (i + 1) os)) item c.of_sink.result c.args.sink.now c.put_missing.new.sink middle
+    around (ap (λ (stop : Stop). stop.done) c.of_sink.ensures ∙ l.done) l.files
+    (subst (λ (p : List ℕ). ChangesOne p (p ++ item.path) middle after) l.path c.put_missing.ensures.rest)
+    (subst (λ (p : List ℕ). GivesUp refused p item.path middle after) l.path c.in-Err.ensures.removed)
+
 pub returns-in-Err-clause-stays : goal.returns-in-Err-clause-stays
 returns-in-Err-clause-stays g c =
     let os = c.args.outcomes.now in
@@ -82,6 +97,7 @@ loop-outcome-init g c = record {
   counted = omega arith;
   path = refl;
   files = leaves_none c.args.sink.now.path c.args.sink.now.nodes;
+  folders = tt;
   stays = keeps_nothing c.args.sink.now.path c.args.sink.now.nodes;
   outside = outside_same c.args.sink.now.path c.args.sink.now.nodes c.args.sink.now.nodes refl;
 }
@@ -100,7 +116,11 @@ loop-outcome-preserved g c =
       | in-File+in_default-put_missing w ↦
           let item : Item = w.in-File.item in
           let put = w.put_missing.ensures in
+          let middle = c.loop-outcome.sink.nodes in
           let nodes = w.put_missing.new.sink.nodes in
+          let like : PutsLike root item middle nodes =
+          subst (λ (p : List ℕ). PutsLike p item middle nodes) l.path w.in_default-put_missing.ensures.file in
+          let without = λ (none : has_bytes item.kind ≡ false). subst (λ (p : List ℕ). AddsFolders p middle nodes) l.path (put.folders none) in
           let more : items_in (take (i + 1) os) ≡ before ++ item ∷ [] = one_more ∙ ap (λ (is : List Item). before ++ is) (items_file o item w.in-File.is) in
           let longer : length (items_in (take (i + 1) os)) ≡ length before + 1 = ap length more ∙ length-append before (item ∷ []) in
           record {
@@ -109,10 +129,11 @@ loop-outcome-preserved g c =
             counted = rw w.sink-is (let a = l.counted in let b = put.counted in omega (arith, a, b));
             path = rw w.sink-is (put.path ∙ l.path);
             files =
+                rw (more, w.sink-is) (leaves_more root before item first middle nodes l.files like without);
+            folders =
                 rw (more, w.sink-is)
-                (leaves_more root before item first c.loop-outcome.sink.nodes nodes l.files
-                (subst (λ (p : List ℕ). PutsLike p item c.loop-outcome.sink.nodes nodes) l.path w.in_default-put_missing.ensures.file)
-                (λ none. subst (λ (p : List ℕ). AddsFolders p c.loop-outcome.sink.nodes nodes) l.path (put.folders none)));
+                (folders_more root before item middle nodes l.folders (stay_like root item middle nodes like without)
+                (subst (λ (p : List ℕ). MakesFolder p item nodes) l.path w.in_default-put_missing.ensures.folder));
             stays =
                 rw (more, w.sink-is)
                 (keeps_more root before item first c.loop-outcome.sink.nodes nodes l.stays
@@ -133,6 +154,7 @@ loop-outcome-preserved g c =
             counted = rw w.sink-is l.counted;
             path = rw w.sink-is l.path;
             files = rw (same, w.sink-is) l.files;
+            folders = rw (same, w.sink-is) l.folders;
             stays = rw (same, w.sink-is) l.stays;
             outside = rw w.sink-is l.outside;
           }

@@ -1,6 +1,8 @@
-use Rattle.std.proofs.Common.{List, ℕ, Ok, ap, subst}
+use Rattle.std.proofs.Common.{List, ℕ, Ok, OnOk, ap, subst}
 use Rattle.br_sink_folder.specs.Below.{KeepsOutside}
+use Rattle.br_sink_folder.specs.Way.{MakesFolder}
 use Rattle.br_sink_folder.proofs.LikeLaws.{outside_after, put_parts_after, puts_there}
+use Rattle.br_sink_folder.proofs.WayLaws.{no_folder}
 use Rattle.br_sink_folder.proofs.resumed_delivery.put_missing_parts.Goals as goal
 
 pub returns-then-is_there-clause-file : goal.returns-then-is_there-clause-file
@@ -17,3 +19,12 @@ pub returns-else-is_there-clause-outside : goal.returns-else-is_there-clause-out
 returns-else-is_there-clause-outside g c =
     outside_after c.args.sink.now.path c.args.sink.now.nodes c.is_put.new.self.nodes c.put_parts.new.self.nodes c.is_put.ensures.added
     (subst (λ (p : List ℕ). KeepsOutside p c.is_put.new.self.nodes c.put_parts.new.self.nodes) c.is_put.ensures.path c.put_parts.ensures.outside)
+
+pub returns-then-is_there-clause-folder : goal.returns-then-is_there-clause-folder
+returns-then-is_there-clause-folder g c =
+    no_folder c.args.sink.now.path c.args.item.now c.is_put.new.self.nodes (c.in_ok-is_there.ensures.file (ap Ok c.if-is_there.true))
+
+pub returns-else-is_there-clause-folder : goal.returns-else-is_there-clause-folder
+returns-else-is_there-clause-folder g c =
+    subst (λ (p : List ℕ). OnOk c.put_parts.result (MakesFolder p c.args.item.now c.put_parts.new.self.nodes)) c.is_put.ensures.path
+    c.put_parts.ensures.folder

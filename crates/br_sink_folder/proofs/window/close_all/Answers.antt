@@ -12,10 +12,11 @@ returns-in-Ok-clause-left g c = λ items nodes held.
 
 pub returns-in-Err-clause-before : goal.returns-in-Err-clause-before
 returns-in-Err-clause-before g c = λ items nodes held.
-    close_stops g.W.Write.contents c.args.root.now items c.args.made.now c.finish_each.new.made c.in-Err.stop nodes
+    let left = c.finish_each.ensures.left items nodes held in
+    close_stops g.M.Remover.is_refused g.W.Write.contents c.args.root.now items c.args.made.now c.finish_each.new.made c.in-Err.stop nodes
     (g.M.FileMaker.nodes c.args.maker.now) (g.M.FileMaker.nodes c.finish_each.new.maker) (g.M.FileMaker.nodes c.remove_from.new.maker)
-    c.finish_each.ensures.files held c.in-Err.ensures.first (c.finish_each.ensures.left items nodes held)
-    (rw c.done.ensures at c.remove_from.ensures.kept)
+    c.finish_each.ensures.files held c.in-Err.ensures.one c.in-Err.ensures.first left.files (rw c.done.ensures at c.remove_from.ensures.kept)
+    (rw c.done.ensures at c.remove_from.ensures.removed)
 
 pub returns-in-Err-clause-stopped : goal.returns-in-Err-clause-stopped
 returns-in-Err-clause-stopped g c = λ n below. c.in-Err.ensures.stopped n (c.finish_each.ensures.below n below)
