@@ -9,3 +9,5 @@ pub mod FixedLaws
 pub mod DrivenLaws
 pub mod LineLaws
 pub mod ChoiceAloneLaws
+pub mod PathsLaws
+pub mod PathsExamples

@@ -20,6 +20,7 @@ use Rattle.br_choose.specs.Fault as choice
 use Rattle.br_choose.specs.declared.fault.ChooseFault.{ChooseFault}
 use Rattle.br_choose.specs.declared.fault.ChooseFault.TheVariants as choosing
 use Rattle.br_plan.specs.Fault as plan
+use Rattle.br_plan.specs.Asked.{Asked}
 use Rattle.br_plan.specs.Means.{IsViewOfChosen}
 use Rattle.br_plan.specs.declared.fault.PlanFault.{PlanFault}
 use Rattle.br_plan.specs.declared.fault.PlanFault.TheVariants as planning
@@ -43,6 +44,8 @@ use Rattle.br_console.specs.ConsoleFault.{Refusal, OfPlan, OfPiece, EndlessAfter
 use Rattle.br_console.specs.ConsoleEnding.{EndIs, IsWhole, TellsMissing, are_accepted, is_done}
 use Rattle.br_console.specs.Talking.{are_answered, SessionOver, LeavesOver}
 use Rattle.br_console.specs.Running.{opening, begun, with_files, with_marks, with_plan, over_volumes, run_from, console_run, Answer, BecomesFault, Begins, BeginsOver, Begun, MissingOver, NoneStandForPlan, RefusesPlan, RefusesRun, RestoresOver, RestoresPlan, RunsOver, StopsAt, TellsOver, WritesPlan}
+use Rattle.br_console.specs.MarkedPaths.{unmarked_view}
+use Rattle.br_console.proofs.PathsLaws.{bare_of, unchosen}
 use Rattle.br_console.specs.declared.console_fault.ConsoleFault.{ConsoleFault}
 use Rattle.br_console.specs.declared.console_fault.ConsoleFault.TheVariants as fault
 use Rattle.br_console.specs.declared.ending.LineVerdict.{LineVerdict}
@@ -52,21 +55,18 @@ use Rattle.br_console.specs.declared.ending.End.TheVariants.{Done, Quit}
 -- ---- the choice and the session
 
 -- the choice is refused
-pub opening_refused : (history : List JobRows) (q : Request) (why : ChooseFault) → IsRefusal (choice.cause why) (choose history q) → IsRefusal (plan.cause (plan.from_choice why)) (opening history q)
+pub opening_refused : (asked : Asked) (why : Option ℕ) → IsRefusal why (unmarked_view asked) → IsRefusal why (opening asked.history asked.request)
 unfolding opening
-opening_refused history q choosing.Memory e = tt
-opening_refused history q choosing.NoFull e = rw e refl
-opening_refused history q choosing.UnknownClient e = rw e refl
-opening_refused history q choosing.UnknownFileSet e = rw e refl
+opening_refused asked None e = tt
+opening_refused asked (Some n) e = rw (unchosen asked n e) refl
 
 -- the console over the view of the chosen jobs
-pub opening_is : (history jobs : List JobRows) (q : Request) (view : List Entry) (m : Marking) (s : Situation) → choose history q ≡ Ok jobs → view ≡ view_of jobs → m ≡ unmarked view
-    → s ≡ record { view = m.view; state = console_at root m } → opening history q ≡ Ok s
+pub opening_is : (asked : Asked) (tree : Marking) (s : Situation) → unmarked_view asked ≡ Ok tree → s ≡ record { view = tree.view; state = console_at root tree }
+    → opening asked.history asked.request ≡ Ok s
 unfolding opening
-opening_is history jobs q view m s chosen viewed bare is =
-    rw chosen
-    (ap (λ (v : List Entry). Ok (record { view = v; state = at_start })) (sym viewed)
-    ∙ ap (λ (t : Marking). Ok (record { view = t.view; state = console_at root t })) (sym bare) ∙ ap Ok (sym is))
+opening_is asked tree s viewed is =
+    let bare = bare_of asked tree viewed in
+    rw bare.chosen (ap (λ (t : Marking). Ok (record { view = t.view; state = console_at root t })) (sym bare.is_view) ∙ ap Ok (sym is))
 
 -- if there is a console, the choice is not refused
 pub was_chosen : (history : List JobRows) (q : Request) (s : Situation) → opening history q ≡ Ok s → (n : ℕ) → choose history q ≡ Err n → ⊥

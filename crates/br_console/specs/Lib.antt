@@ -17,3 +17,4 @@ pub mod ScriptObeying
 pub mod FixedDrive
 pub mod DriveCount
 pub mod DrivenRestoring
+pub mod MarkedPaths

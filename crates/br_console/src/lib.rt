@@ -4,6 +4,9 @@
 //! it gives and their manifest, and into a sink if there is one: `run_console`. Its parts are
 //! `prepare`, which calls `converse`, and `finish`, which calls `restore_plan`.
 //!
+//! Without a dialogue `plan_paths` makes the plan for paths that patterns name, which `restore_plan`
+//! restores.
+//!
 //! A script fills volumes, commits jobs, and restores by bootstraps and by dialogues with the
 //! console, line by line. `run_script` works in memory, and `run_script_over` with any catalogue
 //! and any store of volumes that has readers. The reader of such a `DrivenStore` restores with a
@@ -18,6 +21,7 @@ mod driven_store;
 mod ending;
 mod fixed_drive;
 mod forgetful;
+mod marked_paths;
 mod reply;
 mod restore_line;
 mod running;
@@ -39,6 +43,7 @@ pub use driven_store::{DrivenRestore, DrivenStore, VolumeReader, restore_by};
 pub use ending::{ConsoleRun, End, LineVerdict, SessionEnd, SessionOutcome};
 pub use fixed_drive::FixedDrive;
 pub use forgetful::Forgetful;
+pub use marked_paths::plan_paths;
 pub use running::{finish, prepare, restore_plan, run_console};
 pub use script::ScriptEnd;
 pub use script_fault::ScriptFault;

@@ -13,6 +13,7 @@ ghost use Rattle.br_console.specs.Delivering.{IfUnchosen, IsViewOfAsked, plan_fo
 
 use crate::console_fault::ConsoleFault;
 use crate::ending::{ConsoleRun, End, LineVerdict, SessionEnd};
+use crate::marked_paths::tree_for;
 use crate::talking::converse;
 use br_bsr::{Bootstrap, write_bootstrap};
 use br_engine::{CountedBootstrap, ExtractFault, Extracted, Flush, Restore, RestoreOrder, show};
@@ -21,7 +22,6 @@ use br_plan::{JobSelection, Plan, PlanFault};
 use br_sink::Sink;
 use br_tree::Tree;
 use br_types::{Names, Wanted};
-use br_view::View;
 use br_volume::Drive;
 use std::alloc::Global;
 use std::io::BufRead;
@@ -29,13 +29,10 @@ use std::sync::Wait;
 use std::thread::Threads;
 
 /// Returns the console over the view of the chosen jobs, at `/` and without marks.
-#[tactic(auto, unfolding(crate::specs::Running::opening))]
 fn console_for<'h>(alloc: Global, asked: &JobSelection<'h>) -> Result<Console<'h>, PlanFault>
     ensures { Answers (λ console. console) cause result (opening asked.now.history asked.now.request) }
 {
-    let jobs = asked.jobs(alloc)?;
-    let view = View::build(alloc, &jobs)?;
-    let tree = Tree::build(alloc, view)?;
+    let tree = tree_for(alloc, asked)?;
     Ok(Console::new(alloc, tree)?)
 }
 

@@ -1,21 +1,12 @@
-use Rattle.std.proofs.Common.{List, ap, map, ◌∙◌}
+use Rattle.br_plan.specs.Fault.{cause}
 use Rattle.std.proofs.lemmas.Result.{err_from_is_err_and}
-use Rattle.std.specs.Borrow.{Bor}
-use Rattle.br_model.specs.Job.{JobRows}
-use Rattle.br_model.specs.View.{view_of}
 use Rattle.br_console.proofs.RunLaws.{opening_refused, opening_is}
 use Rattle.br_console.proofs.running.console_for.Goals as goal
 
-pub returns-in_err-jobs : goal.returns-in_err-jobs
-returns-in_err-jobs c =
+pub returns-in_err-tree : goal.returns-in_err-tree
+returns-in_err-tree c =
     let p = err_from_is_err_and c.from_residual.result c.from_residual.ensures.1 in
-    rw (p.1, p.2)
-    (opening_refused c.args.asked.now.history c.args.asked.now.request c.in_err-jobs.field-0.0 c.in_err-jobs.ensures.answers)
+    rw (p.1, p.2) (opening_refused c.args.asked.now (cause c.in_err-tree.field-0.0) c.in_err-tree.ensures)
 
 pub returns : goal.returns
-returns c =
-    let jobs : List JobRows = map (λ (j : Bor JobRows). j.now) c.in_ok-jobs.jobs.items in
-    opening_is c.args.asked.now.history jobs c.args.asked.now.request c.in_ok-view.view c.in_ok-tree.tree c.in_ok-new.field-0
-    c.in_ok-jobs.ensures.answers
-    (c.in_ok-view.ensures ∙ ap (λ (bs : List (Bor JobRows)). view_of (map (λ (j : Bor JobRows). j.now) bs)) c.deref.ensures.value)
-    c.in_ok-tree.ensures c.in_ok-new.ensures
+returns c = opening_is c.args.asked.now c.in_ok-tree.tree c.in_ok-new.field-0 c.in_ok-tree.ensures c.in_ok-new.ensures
