@@ -1,2 +1,3 @@
 pub mod VolumesLaws
 mod TellLaws
+mod ExtractLaws

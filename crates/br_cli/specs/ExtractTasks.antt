@@ -1,11 +1,11 @@
 -- The task of `extract`: a bootstrap, over drives, a writer and a sink.
-use Rattle.std.specs.Prelude.{◌≡◌, ℕ, List, map, Option, None, option_map, Result, Ok, Err}
+use Rattle.std.specs.Prelude.{◌≡◌, ℕ, List, map, Option, None, option_map, Result, Ok, Err, ⊤}
 use Rattle.std.specs.declared.io.Write as write
 use Rattle.br_volume.specs.declared.drive.Drive as drive
 use Rattle.br_bsr.specs.declared.fault.BsrFault.{BsrFault}
 use Rattle.br_engine.specs.Extracting.{OverVolumes}
 use Rattle.br_engine.specs.Outputs.{InSink}
-use Rattle.br_engine.specs.Restores.{Change, Extracts, Seen}
+use Rattle.br_engine.specs.Restores.{AreWanted, Change, Extracts, Seen}
 use Rattle.br_engine.specs.WantedOutcomes.{reported}
 use Rattle.br_engine.specs.declared.extracted.Extracted.{Extracted}
 use Rattle.br_engine.specs.declared.fault.ExtractFault.{ExtractFault}
@@ -32,6 +32,16 @@ ExtractsRead (Err fault) wanted seen result = (result ≡ Err (Bootstrap fault))
 -- the same for an extraction
 abbrev pub ExtractsTo : Extraction → Change → Result Extracted ExtractFault → Type 0
 ExtractsTo e seen result = ExtractsRead e.bootstrap.read e.wanted seen result
+
+-- the outcomes are those of the files of the bootstrap that are to be delivered, if its text is not
+-- refused
+abbrev pub AreWantedOfRead : Result ReadBootstrap BsrFault → Wanted → Change → Result Extracted ExtractFault → Type 0
+AreWantedOfRead (Ok read) wanted seen result = AreWanted wanted (λ holds. OverVolumes seen.old.told seen.new.told read.bootstrap None holds) result
+AreWantedOfRead (Err fault) wanted seen result = ⊤
+
+-- the same for an extraction
+abbrev pub AreWantedTo : Extraction → Change → Result Extracted ExtractFault → Type 0
+AreWantedTo e seen result = AreWantedOfRead e.bootstrap.read e.wanted seen result
 
 -- what a restore into a tar stream and its writer show, if the sink has these files
 abbrev pub with_stream : {D W : Type 0} → drive.Ghosts D → write.Ghosts W → Restore D (WatchedSink InTar) × W → InSink → Seen

@@ -197,7 +197,7 @@ fn report(rt: &HostRuntime, run: Result<u8, ExtractFault>) -> io::Result<u8>
 {
     let ending = check_ending(rt.alloc(), &run)?;
     if let Err(fault) = &run {
-        report_stream(rt, fault)?;
+        report_stream(rt, "standard output", fault)?;
     }
     let status = ending.print(rt)?;
     Ok(status)

@@ -1,5 +1,5 @@
 //! The command `extract`.
-ghost use Rattle.std.specs.Prelude.{◌≡◌, false, length, not, option_map, None, Some, IfOk, IfSome, IsSome};
+ghost use Rattle.std.specs.Prelude.{◌≡◌, false, length, option_map, None, Some, IfOk, IfSome, IsSome};
 ghost use Rattle.br_cli_common.specs.Options.{AreFew};
 ghost use Rattle.br_pool.specs.Pool.{AreDrives};
 ghost use Rattle.br_volume.specs.HostDrives.{AreOver};
@@ -7,19 +7,21 @@ ghost use Rattle.br_cli_target.specs.AskedTarget.{folder_asked, stream_asked};
 ghost use Rattle.br_cli.specs.ExtractEnding.{asks_in, done_status, extent, run_refusal, run_status, told_status};
 ghost use Rattle.br_cli.specs.ExtractStarting.{start_status};
 ghost use Rattle.br_cli_target.specs.TarEnding.{IsShown};
-ghost use Rattle.br_engine.specs.Restores.{change};
-ghost use Rattle.br_cli.specs.ExtractTasks.{ExtractsTo, StreamsTo};
+ghost use Rattle.br_cli_target.specs.TextPlaces.{manifest_place};
+ghost use Rattle.br_engine.specs.Restores.{TellsDelivered, TellsStop, change};
+ghost use Rattle.br_cli.specs.ExtractTasks.{AreWantedTo, ExtractsTo, StreamsTo};
+ghost use Rattle.br_cli_common.specs.declared.options.Printed.TheVariants.{Manifest};
 
 use br_bsr::{Bootstrap, BsrFault};
 use br_check::push_empty;
-use br_cli_common::{BAD_STREAM, CLEAN, ExtractOptions, REFUSED, Target, refuse_start};
+use br_cli_common::{BAD_STREAM, CLEAN, ExtractOptions, Printed, REFUSED, Target, refuse_start};
 use br_cli_progress::{Gauge, WatchedSink, WatchedWriter};
 use br_cli_target::{
-    Channel, Ending, LeavingSink, PutExtent, Settle, Streamed, TarEnd, TarFault, ToldOutcomes,
-    add_tar_end, advise, end_stream, folder_of, gauge_of, is_whole, lacks_volumes, leaving_over,
-    left_out, log_fault, refuse_log, refuse_place, restore_over, say_conflicts, say_files,
-    say_nowhere, say_stop, say_volumes, tar_into, tar_output, tell_others, tell_outcomes,
-    with_watched_drives, with_watched_sink,
+    Channel, Ending, LeavingSink, PutExtent, Settle, Streamed, TarEnd, TarFault, TextOutput,
+    ToldOutcomes, add_tar_end, advise, end_manifest, end_stream, folder_of, gauge_of, is_whole,
+    lacks_volumes, leaving_over, left_out, log_fault, open_manifest, refuse_log, refuse_manifest,
+    refuse_place, restore_over, say_conflicts, say_files, say_nowhere, say_stop, say_volumes,
+    tar_into, tar_output, tell_others, tell_outcomes, with_watched_drives, with_watched_sink,
 };
 use br_engine::{
     ExtractFault, Extracted, Flush, ReadBootstrap, Restore, RestoreEnd, RestoreOrder, read_text,
@@ -106,14 +108,15 @@ fn whole_ending(
     Ok(ending)
 }
 
-/// Prints to standard error that a stream failed, if one did. If memory ran out, returns the error.
-pub(crate) fn report_stream<R: Eprint>(rt: &R, fault: &ExtractFault) -> io::Result<()> {
+/// Prints to standard error that the stream or file with this name failed, if it did. If memory ran
+/// out, returns the error.
+pub(crate) fn report_stream<R: Eprint>(rt: &R, name: &str, fault: &ExtractFault) -> io::Result<()> {
     match fault {
         ExtractFault::Io(e) if e.kind() == ErrorKind::OutOfMemory => {
             Err(ErrorKind::OutOfMemory.into())
         }
-        ExtractFault::Io(e) => eprintln!(rt; "brestore: standard output: {e}"),
-        ExtractFault::NoEnd(e) => eprintln!(rt; "brestore: standard output: {e}"),
+        ExtractFault::Io(e) => eprintln!(rt; "brestore: {name}: {e}"),
+        ExtractFault::NoEnd(e) => eprintln!(rt; "brestore: {name}: {e}"),
         _ => Ok(()),
     }
 }
@@ -131,14 +134,27 @@ fn say_done(
     say_stop(rt, gauge, target, &done.end, done.stopped_at.as_ref())
 }
 
-/// Prints that a stream failed, if one did, and appends it to the log.
-fn tell_stream(rt: &HostRuntime, gauge: &Gauge<'_>, fault: &ExtractFault) -> io::Result<()> {
-    report_stream(rt, fault)?;
+/// Prints that the stream or file with this name failed, if it did, and appends it to the log.
+fn tell_stream(
+    rt: &HostRuntime,
+    gauge: &Gauge<'_>,
+    name: &str,
+    fault: &ExtractFault,
+) -> io::Result<()> {
+    report_stream(rt, name, fault)?;
     match fault {
-        ExtractFault::Io(_) | ExtractFault::NoEnd(_) => {
-            log_fault(rt, gauge, Some("standard output"), fault)
-        }
+        ExtractFault::Io(_) | ExtractFault::NoEnd(_) => log_fault(rt, gauge, Some(name), fault),
         _ => Ok(()),
+    }
+}
+
+/// Returns the file that the manifest goes to, if it has one of its own.
+fn manifest_file<'a>(given: &ExtractOptions<'a>) -> Option<&'a str>
+    ensures { given.now.printed ≡ Manifest → result ≡ None }
+{
+    match given.printed {
+        Printed::Manifest => None,
+        Printed::Words(file) => file,
     }
 }
 
@@ -159,7 +175,8 @@ fn report(
     let asks_nothing = is_nothing_asked(given.wanted.gaps, told);
     let ending = whole_ending(rt.alloc(), asks_nothing, run, failed, end)?;
     if let Err(fault) = run {
-        tell_stream(rt, gauge, fault)?;
+        let name = manifest_file(given).unwrap_or("standard output");
+        tell_stream(rt, gauge, name, fault)?;
     }
     gauge.log_refusals(&ending.refusal);
     let status = ending.print(rt)?;
@@ -381,6 +398,9 @@ pub fn extract_over<D: Drive + Send, W: Flush, S: Sink>(
 ) -> Result<Extracted, ExtractFault>
     requires drives { AreDrives restore.old.drives.items }
     ensures extracts { ExtractsTo extraction.now (change D.Drive W.Write S.Sink (restore.old, writer.old) (restore.new, writer.new)) result }
+    ensures wanted { AreWantedTo extraction.now (change D.Drive W.Write S.Sink (restore.old, writer.old) (restore.new, writer.new)) result }
+    ensures outcomes { TellsDelivered (change D.Drive W.Write S.Sink (restore.old, writer.old) (restore.new, writer.new)) result }
+    ensures stopped_at { TellsStop result }
     ensures flushed { IfOk result (λ _. W.is_flushed writer.new) }
 {
     match &extraction.bootstrap.read {
@@ -422,6 +442,7 @@ fn extract_stream<D: Drive + Send, W: Flush, T: Settle + Drop>(
     requires drives { AreDrives restore.old.drives.items }
     requires sink { IsSome restore.old.sink }
     ensures streams { StreamsTo D.Drive W.Write T.contents extraction.now (restore.old, writer.old) (restore.new, writer.new) result }
+    ensures stopped_at { TellsStop result.run }
     ensures flushed { IfOk result.run (λ _. W.is_flushed writer.new) }
     ensures shown { IfSome result.writer (λ w. IsShown (T.is_flushed w) result.end) }
     ensures settled { IfSome result.writer (λ w. IsShown (T.is_settled w) result.end) }
@@ -453,17 +474,20 @@ pub(crate) fn expect(gauge: &Gauge<'_>, bootstrap: Option<&Bootstrap>) {
     }
 }
 
-/// Restores into a folder, or only prints the manifest if there is none.
-fn extract_into(
+/// Restores into a folder, or only writes the manifest if there is none. The manifest goes to this
+/// output.
+fn extract_into<M: TextOutput + Drop>(
     rt: &HostRuntime,
     threads: &(impl Threads + Wait + Sync),
     gauge: &Gauge<'_>,
     given: &ExtractOptions<'_>,
+    manifest: M,
 ) -> io::Result<u8>
     requires few { AreFew given.now.drives }
     requires asked { stream_asked given.now.target ≡ None }
+    requires printed { M.place ≡ manifest_place given.now.printed given.now.target }
 {
-    let writer = BufWriter::new(rt.alloc(), io::writer(rt))?;
+    let writer = BufWriter::new(rt.alloc(), manifest)?;
     let (extraction, restore) = match set_up_extract(rt, gauge, given) {
         Ok(setup) => setup,
         Err(fault) => return refuse_told(rt, gauge, given, fault),
@@ -476,29 +500,25 @@ fn extract_into(
     gauge.clear();
     name_others(rt, gauge, given, &run)?;
     let told = ToldOutcomes::by(&writer, bootstrap);
-    report(
-        rt,
-        gauge,
-        given,
-        &told,
-        &run,
-        (left_out(&restore.sink), None),
-    )
+    let left = (left_out(&restore.sink), None);
+    let status = report(rt, gauge, given, &told, &run, left)?;
+    let manifest = writer.inner.get_mut();
+    end_manifest(rt, gauge, manifest_file(given), manifest, status)
 }
 
-/// Restores into the tar stream of a sink. The manifest goes to this writer: standard output, or
-/// another one if the stream goes there.
-fn extract_onto<T: Channel + Drop, W: Channel + Drop>(
+/// Restores into the tar stream of a sink. The manifest goes to this output, which is not standard
+/// output if the stream goes there.
+fn extract_onto<T: Channel + Drop, M: TextOutput + Drop>(
     rt: &HostRuntime,
     threads: &(impl Threads + Wait + Sync),
     gauge: &Gauge<'_>,
     given: &ExtractOptions<'_>,
     sink: TarSink<BufWriter<T>>,
-    manifest: W,
+    manifest: M,
 ) -> io::Result<u8>
     requires few { AreFew given.now.drives }
     requires asked { stream_asked given.now.target ≡ Some T.is_output }
-    requires apart { W.is_output ≡ not T.is_output }
+    requires printed { M.place ≡ manifest_place given.now.printed given.now.target }
 {
     let writer = BufWriter::new(rt.alloc(), manifest)?;
     let (extraction, restore) = match set_up_over(rt, given, Some(sink)) {
@@ -512,25 +532,22 @@ fn extract_onto<T: Channel + Drop, W: Channel + Drop>(
     let stream = extract_stream(threads, &extraction, &mut restore, &mut writer);
     gauge.clear();
     let told = ToldOutcomes::by(&writer, bootstrap);
-    report(
-        rt,
-        gauge,
-        given,
-        &told,
-        &stream.run,
-        (&[], Some(stream.end)),
-    )
+    let end = Some(stream.end);
+    let status = report(rt, gauge, given, &told, &stream.run, (&[], end))?;
+    let manifest = writer.inner.get_mut();
+    end_manifest(rt, gauge, manifest_file(given), manifest, status)
 }
 
 /// Restores by the bootstrap in a file over the volumes in a folder. The manifest goes to standard
 /// output, and refusals to standard error. Then the restored files are put into their target: a
 /// folder, or a tar stream in a file or on standard output. In the last case the manifest goes to
 /// standard error. What becomes of the files is reported in words to a terminal, and to a log if
-/// one is given.
+/// one is given. If words are to be printed, they go to standard error wherever that is, and the
+/// manifest goes to its file or nowhere.
 ///
 /// A folder has to exist and be empty unless the restore is resumed, and a file must not exist;
-/// else the target is refused (81) before anything is read. The manifest is printed before any file
-/// is put.
+/// else the target is refused (81) before anything is read. The file of a manifest is opened before
+/// that. The manifest is written before any file is put.
 ///
 /// Returns the exit status: 0 if nothing was refused and each outcome is a file; 1 if something was
 /// refused, left out or is reported as missing, or some outcome is not a file; 3 if the bootstrap could not
@@ -548,6 +565,7 @@ pub fn extract_files(
 {
     match gauge_of(rt, given.volumes, given.target, given.progress, given.log) {
         Ok(gauge) => {
+            let gauge = gauge.with_words(matches!(given.printed, Printed::Words(_)));
             let status = extract_told(rt, threads, &gauge, given)?;
             gauge.end_log(status)
         }
@@ -555,7 +573,8 @@ pub fn extract_files(
     }
 }
 
-/// Restores as `extract_files` does, and watches the restore.
+/// Restores as `extract_files` does, and watches the restore. Opens the file of the manifest, if it
+/// has one.
 fn extract_told(
     rt: &HostRuntime,
     threads: &(impl Threads + Wait + Sync),
@@ -564,15 +583,39 @@ fn extract_told(
 ) -> io::Result<u8>
     requires few { AreFew given.now.drives }
 {
+    match (given.printed, given.target) {
+        (Printed::Manifest, Target::TarOutput) => {
+            extract_to(rt, threads, gauge, given, rt.stderr())
+        }
+        (Printed::Manifest, _) => extract_to(rt, threads, gauge, given, io::writer(rt)),
+        (Printed::Words(None), _) => extract_to(rt, threads, gauge, given, io::sink()),
+        (Printed::Words(Some(path)), _) => match open_manifest(rt, path) {
+            Ok(file) => extract_to(rt, threads, gauge, given, file),
+            Err(error) => refuse_manifest(rt, gauge, Some(path), error),
+        },
+    }
+}
+
+/// Restores into the target, with the manifest to this output.
+fn extract_to<M: TextOutput + Drop>(
+    rt: &HostRuntime,
+    threads: &(impl Threads + Wait + Sync),
+    gauge: &Gauge<'_>,
+    given: &ExtractOptions<'_>,
+    manifest: M,
+) -> io::Result<u8>
+    requires few { AreFew given.now.drives }
+    requires printed { M.place ≡ manifest_place given.now.printed given.now.target }
+{
     match given.target {
-        Target::Nowhere => extract_into(rt, threads, gauge, given),
-        Target::Folder(_) => extract_into(rt, threads, gauge, given),
+        Target::Nowhere => extract_into(rt, threads, gauge, given, manifest),
+        Target::Folder(_) => extract_into(rt, threads, gauge, given, manifest),
         Target::TarFile(path) => match tar_into(rt, path) {
-            Ok(sink) => extract_onto(rt, threads, gauge, given, sink, io::writer(rt)),
+            Ok(sink) => extract_onto(rt, threads, gauge, given, sink, manifest),
             Err(fault) => refuse_told(rt, gauge, given, ExtractStartFault::Tar(fault)),
         },
         Target::TarOutput => match tar_output(rt) {
-            Ok(sink) => extract_onto(rt, threads, gauge, given, sink, rt.stderr()),
+            Ok(sink) => extract_onto(rt, threads, gauge, given, sink, manifest),
             Err(fault) => refuse_told(rt, gauge, given, ExtractStartFault::Tar(fault)),
         },
     }

@@ -8,14 +8,14 @@ use Rattle.clap.specs.Walk.{Text}
 use Rattle.clap.specs.declared.builder.command.Command.{Command}
 use Rattle.clap.specs.declared.builder.command.Command.TheOpen.{Command-F}
 use Rattle.clap.proofs.OnLiterals.{clap_on_literals}
-use Rattle.br_cli_args.specs.ClapCommands.{check_app, console_app, explain_app, extract_app, jobs_app, migrate_app, program_app, serve_app}
+use Rattle.br_cli_args.specs.ClapCommands.{check_app, console_app, explain_app, extract_app, jobs_app, migrate_app, program_app, restore_app, serve_app}
 
 pub program_is_simple : is_simple program_app ≡ true
-unfolding program_app check_app jobs_app explain_app serve_app migrate_app extract_app console_app clap_on_literals
+unfolding program_app check_app jobs_app explain_app serve_app migrate_app extract_app restore_app console_app clap_on_literals
 program_is_simple = refl
 
 pub program_is_free : is_simple_and_free program_app ≡ true
-unfolding program_app check_app jobs_app explain_app serve_app migrate_app extract_app console_app clap_on_literals
+unfolding program_app check_app jobs_app explain_app serve_app migrate_app extract_app restore_app console_app clap_on_literals
 program_is_free = refl
 
 -- a command with a version

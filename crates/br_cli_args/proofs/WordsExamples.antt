@@ -17,7 +17,9 @@ use Rattle.br_model.specs.Text.{decimal_value}
 use Rattle.br_cli_args.specs.ByteSize.{last_sized, size_spelled}
 use Rattle.br_cli_args.specs.Words.CommandAsked.{Check, Console, Explain, ExplainAll, Extract, Jobs, Migrate, Serve, ServeFiles}
 use Rattle.br_cli_args.specs.Words.Goal.{Folder, Nowhere, TarFile, TarOutput}
-use Rattle.br_cli_args.specs.Words.{asked_by, check_asked, checksums_asked, clock_asked, console_asked, copies_asked, drives_asked, explain_asked, extract_asked, file_rows_asked, gaps_asked, jobs_asked, log_asked, manifest_asked, memory_asked, migrate_asked, number_asked, progress_asked, serve_asked, start_asked, stops_asked, syncs_asked, target_asked, wanted_asked}
+use Rattle.br_cli_args.specs.Words.Marking.{Lines, Patterns}
+use Rattle.br_cli_args.specs.Words.Printing.{Manifest, Words}
+use Rattle.br_cli_args.specs.Words.{asked_by, check_asked, checksums_asked, clock_asked, console_asked, copies_asked, drives_asked, explain_asked, extract_asked, file_rows_asked, gaps_asked, jobs_asked, log_asked, manifest_asked, memory_asked, migrate_asked, number_asked, patterns_asked, progress_asked, restore_asked, restore_bootstrap, restore_paths, serve_asked, start_asked, stops_asked, syncs_asked, target_asked, wanted_asked}
 
 -- this value was found for an option
 abbrev found : Text → Text → Row
@@ -130,7 +132,7 @@ abbrev defaults : List Row
 defaults = found (codes "drives") (codes "1") ∷ found (codes "memory") (codes "7") ∷ []
 
 extract_of_its_files : extract_asked (found (codes "bsr") (codes "b") ∷ found (codes "volumes") (codes "v") ∷ flag (codes "resume") ∷ found (codes "into") (codes "i") ∷ found (codes "log") (codes "l") ∷ defaults)
-    ≡ Some (Extract (codes "b") (codes "v") (Folder (codes "i")) 1 7 (record { copies = copies.All; gaps = gaps.Unreported; stops = stops.AtFirst }) starts.Resumed syncs.Never progress.Shown (Some (codes "l")))
+    ≡ Some (Extract (codes "b") (codes "v") (Folder (codes "i")) 1 7 (record { copies = copies.All; gaps = gaps.Unreported; stops = stops.AtFirst }) starts.Resumed syncs.Never progress.Shown (Some (codes "l")) Manifest)
 unfolding extract_asked drives_asked memory_asked size_spelled last_sized number_spelled decimal_value target_asked copies_asked gaps_asked stops_asked start_asked syncs_asked progress_asked
 extract_of_its_files = refl
 
@@ -152,13 +154,58 @@ session more =
     found (codes "db") (codes "d") ∷ found (codes "volumes") (codes "v") ∷ found (codes "client") (codes "c") ∷ found (codes "fileset") (codes "f") ∷ found (codes "before") (codes "t") ∷ more
 
 console_of_its_files : console_asked (session (flag (codes "complete") ∷ flag (codes "resume") ∷ found (codes "into") (codes "i") ∷ found (codes "manifest") (codes "m") ∷ defaults))
-    ≡ Some (Console (codes "d") (codes "v") (codes "c") (codes "f") (codes "t") file_rows.Needed (Folder (codes "i")) 1 7 (record { copies = copies.All; gaps = gaps.Reported; stops = stops.AtFirst }) starts.Resumed syncs.Never progress.Shown None (Some (codes "m")))
+    ≡ Some (Console (codes "d") (codes "v") (codes "c") (codes "f") (codes "t") file_rows.Needed Lines (Folder (codes "i")) 1 7 (record { copies = copies.All; gaps = gaps.Reported; stops = stops.AtFirst }) starts.Resumed syncs.Never progress.Shown None (Some (codes "m")))
 unfolding console_asked drives_asked memory_asked size_spelled last_sized number_spelled decimal_value target_asked gaps_asked stops_asked start_asked syncs_asked progress_asked file_rows_asked
 console_of_its_files = refl
 
 console_that_resumes_nothing : console_asked (session (flag (codes "resume") ∷ defaults)) ≡ None
 unfolding console_asked drives_asked memory_asked size_spelled last_sized number_spelled decimal_value target_asked start_asked
 console_that_resumes_nothing = refl
+
+-- a restore of this bootstrap
+abbrev by_bootstrap : List Row → List Row
+by_bootstrap more = found (codes "bsr") (codes "b") ∷ found (codes "volumes") (codes "v") ∷ more
+
+restore_of_a_bootstrap : restore_asked (by_bootstrap (found (codes "into") (codes "i") ∷ found (codes "manifest") (codes "m") ∷ defaults))
+    ≡ Some (Extract (codes "b") (codes "v") (Folder (codes "i")) 1 7 (record { copies = copies.Newest; gaps = gaps.Reported; stops = stops.Never }) starts.Resumed syncs.Never progress.Shown None (Words (Some (codes "m"))))
+unfolding restore_asked restore_bootstrap drives_asked memory_asked size_spelled last_sized number_spelled decimal_value target_asked syncs_asked progress_asked
+restore_of_a_bootstrap = refl
+
+restore_into_a_new_file : restore_asked (by_bootstrap (found (codes "tar") (codes "t") ∷ defaults))
+    ≡ Some (Extract (codes "b") (codes "v") (TarFile (codes "t")) 1 7 (record { copies = copies.Newest; gaps = gaps.Reported; stops = stops.Never }) starts.Empty syncs.Never progress.Shown None (Words None))
+unfolding restore_asked restore_bootstrap drives_asked memory_asked size_spelled last_sized number_spelled decimal_value target_asked syncs_asked progress_asked
+restore_into_a_new_file = refl
+
+restore_to_nowhere : restore_asked (by_bootstrap defaults) ≡ None
+unfolding restore_asked restore_bootstrap target_asked
+restore_to_nowhere = refl
+
+restore_of_a_bootstrap_and_a_path : restore_asked (by_bootstrap (found (codes "pattern") (codes "/etc") ∷ found (codes "into") (codes "i") ∷ defaults)) ≡ None
+unfolding restore_asked
+restore_of_a_bootstrap_and_a_path = refl
+
+-- a restore of this catalogue
+abbrev by_catalogue : List Row → List Row
+by_catalogue more =
+    found (codes "db") (codes "d") ∷ found (codes "volumes") (codes "v") ∷ found (codes "client") (codes "c") ∷ found (codes "fileset") (codes "f") ∷ more
+
+restore_of_all_paths : restore_asked (by_catalogue (found (codes "into") (codes "i") ∷ defaults))
+    ≡ Some (Console (codes "d") (codes "v") (codes "c") (codes "f") (codes "9999-12-31 23:59:59") file_rows.Needed (Patterns (codes "/" ∷ [])) (Folder (codes "i")) 1 7 (record { copies = copies.All; gaps = gaps.Reported; stops = stops.Never }) starts.Resumed syncs.Never progress.Shown None None)
+unfolding restore_asked restore_paths patterns_asked drives_asked memory_asked size_spelled last_sized number_spelled decimal_value target_asked syncs_asked progress_asked
+restore_of_all_paths = refl
+
+-- these patterns were found
+abbrev patterns : Row
+patterns = record { id = codes "pattern"; values = codes "/etc" ∷ codes "/home/*" ∷ []; count = None; source = None; reading = AsWritten }
+
+restore_of_two_patterns : restore_asked (by_catalogue (patterns ∷ found (codes "before") (codes "t") ∷ found (codes "tar") (codes "-") ∷ defaults))
+    ≡ Some (Console (codes "d") (codes "v") (codes "c") (codes "f") (codes "t") file_rows.Needed (Patterns (codes "/etc" ∷ codes "/home/*" ∷ [])) TarOutput 1 7 (record { copies = copies.All; gaps = gaps.Reported; stops = stops.Never }) starts.Empty syncs.Never progress.Shown None None)
+unfolding restore_asked restore_paths patterns_asked drives_asked memory_asked size_spelled last_sized number_spelled decimal_value target_asked syncs_asked progress_asked
+restore_of_two_patterns = refl
+
+restore_without_a_file_set : restore_asked (found (codes "db") (codes "d") ∷ found (codes "volumes") (codes "v") ∷ found (codes "client") (codes "c") ∷ defaults) ≡ None
+unfolding restore_asked restore_paths
+restore_without_a_file_set = refl
 
 check_of_its_files : check_asked (found (codes "bsr") (codes "b") ∷ found (codes "volumes") (codes "v") ∷ defaults) ≡ Some (Check (codes "b") (codes "v") checksums.Passed 7)
 unfolding check_asked memory_asked size_spelled last_sized number_spelled decimal_value checksums_asked

@@ -1,5 +1,5 @@
 -- From what clap finds in words to the command that they ask for.
-use Rattle.std.proofs.Common.{◌≡◌, ◌∙◌, ◌≤◌, ◌&&◌, if◌then◌else◌, nat_le, ℕ, Bool, List, [], Option, Some, None, Result, option_and_then, option_map, ap, ap₂, codes, refl, sym, subst, true, false, inl, inr}
+use Rattle.std.proofs.Common.{◌≡◌, ◌∙◌, ◌≤◌, ◌&&◌, if◌then◌else◌, nat_le, ℕ, Bool, List, [], Option, Some, None, Result, option_and_then, option_map, ap, refl, sym, subst, true, false, inl, inr}
 use Rattle.std.specs.Prelude.{Box, Ok, Err}
 use Rattle.std.specs.Borrow.{Bor}
 use Rattle.std.specs.Box.{box_value}
@@ -7,7 +7,7 @@ use Rattle.std.specs.Str.Parse.{ExplainsUnsignedError, HasUnsignedDigitsIfOk, Pa
 use Rattle.std.proofs.lemmas.Bool.{le-leb, leb-true, true≢false}
 use Rattle.clap.specs.Kinds.{FailsBy, HasKind}
 use Rattle.clap.specs.Faults.{fault_of, is_simple_and_free}
-use Rattle.clap.specs.Simple.{App, HasMatchesOf, is_simple, subcommand_of, subcommand_rows, subcommand_rows_of}
+use Rattle.clap.specs.Simple.{App, HasMatchesOf, subcommand_of, subcommand_rows, subcommand_rows_of}
 use Rattle.clap.specs.Walk.{Text, one_of, rows_of}
 use Rattle.clap.specs.Matches.{ReadsOne, found_of, one_text}
 use Rattle.clap.specs.Values.{IsUnsignedIn, kind_of}

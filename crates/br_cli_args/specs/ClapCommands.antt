@@ -2,7 +2,7 @@
 use Rattle.std.specs.Prelude.{List, [], ◌∷◌, Bool, codes, fold, Some, false, true}
 use Rattle.clap.specs.Simple.{App, new_app, new_rule, on_top, with_rule, with_subcommand}
 use Rattle.clap.specs.Walk.{Rule, Text}
-use Rattle.clap.specs.declared.builder.action.ArgAction.TheVariants.{Set, SetTrue}
+use Rattle.clap.specs.declared.builder.action.ArgAction.TheVariants.{Append, Set, SetTrue}
 use Rattle.clap.specs.declared.builder.value_parser.ValueParser.TheVariants.{NonEmptyString, Unsigned}
 
 -- an option `--name VALUE`; its value may not be empty, and the option may be required
@@ -19,9 +19,9 @@ value_rule name is_required = record (new_rule name) {
 abbrev pub flag_rule : Text → Rule
 flag_rule name = record (new_rule name) { long = Some name; action = Some SetTrue }
 
--- an option `--name N`, a number from 1 to 16, which is 1 if the option is omitted
-abbrev pub drives_rule : Text → Rule
-drives_rule name = record (value_rule name false) { parser = Some (Unsigned 1 16); defaults = codes "1" ∷ [] }
+-- an option `--name N`, a number from 1 to 16, which is the default if the option is omitted
+abbrev pub drives_rule : Text → Text → Rule
+drives_rule default name = record (value_rule name false) { parser = Some (Unsigned 1 16); defaults = default ∷ [] }
 
 -- an option `--name SIZE`, which is 1 GiB if the option is omitted
 abbrev pub memory_rule : Text → Rule
@@ -30,6 +30,10 @@ memory_rule name = record (value_rule name false) { defaults = codes "1G" ∷ []
 -- a number after the command, which may be omitted
 abbrev pub number_rule : Text → Rule
 number_rule name = record (new_rule name) { action = Some Set; value_names = 1; parser = Some (Unsigned 0 4294967295) }
+
+-- any number of values after the command, none of which may be empty
+abbrev pub values_rule : Text → Rule
+values_rule name = record (new_rule name) { action = Some Append; value_names = 1; parser = Some NonEmptyString }
 
 -- a command of this name with these options
 abbrev pub command_with : Text → List Rule → App
@@ -42,7 +46,7 @@ with_restoring app =
     fold with_rule app
     (value_rule (codes "into") false ∷
     value_rule (codes "tar") false ∷
-    drives_rule (codes "drives") ∷
+    drives_rule (codes "1") (codes "drives") ∷
     memory_rule (codes "memory") ∷
     flag_rule (codes "sync") ∷
     flag_rule (codes "quiet") ∷
@@ -56,6 +60,29 @@ with_session_choices app = fold with_rule app (flag_rule (codes "complete") ∷ 
 -- `--newest` and these, all optional
 abbrev pub with_choices : App → App
 with_choices app = with_session_choices (with_rule app (flag_rule (codes "newest")))
+
+-- `restore --volumes DIR`, the optional patterns, bootstrap, catalogue, client, file set and moment, and
+-- the optional `--into DIR`, `--tar FILE`, `--drives N`, which is 4 if it is omitted, `--memory SIZE`,
+-- `--sync`, `--quiet`, `--log FILE` and `--manifest FILE`
+unfoldable pub restore_app : App
+restore_app =
+    command_with (codes "restore")
+    (values_rule (codes "pattern") ∷
+    value_rule (codes "bsr") false ∷
+    value_rule (codes "db") false ∷
+    value_rule (codes "client") false ∷
+    value_rule (codes "fileset") false ∷
+    value_rule (codes "before") false ∷
+    value_rule (codes "volumes") true ∷
+    value_rule (codes "into") false ∷
+    value_rule (codes "tar") false ∷
+    drives_rule (codes "4") (codes "drives") ∷
+    memory_rule (codes "memory") ∷
+    flag_rule (codes "sync") ∷
+    flag_rule (codes "quiet") ∷
+    value_rule (codes "log") false ∷
+    value_rule (codes "manifest") false ∷
+    [])
 
 -- `extract --bsr FILE --volumes DIR`, and the optional ones
 unfoldable pub extract_app : App
@@ -121,7 +148,7 @@ bare_app = on_top (λ s. record s { has_version = true }) (new_app (codes "brest
 abbrev pub with_all_commands : App → App
 with_all_commands app =
     fold (λ a (command : App). with_subcommand a command.top) app
-    (extract_app ∷ console_app ∷ check_app ∷ jobs_app ∷ explain_app ∷ serve_app ∷ migrate_app ∷ [])
+    (restore_app ∷ extract_app ∷ console_app ∷ check_app ∷ jobs_app ∷ explain_app ∷ serve_app ∷ migrate_app ∷ [])
 
 -- the program with its version and its commands
 unfoldable pub program_app : App

@@ -1,11 +1,11 @@
 -- The command that the words of a command line ask for, by the definitions of clap.
-use Rattle.std.specs.Prelude.{◌≡◌, if◌then◌else◌, ℕ, ◌^◌, not, List, [], ◌∷◌, Bool, bytes_eq, codes, is_some, Option, Some, None, option_and_then, option_map, false, true}
+use Rattle.std.specs.Prelude.{◌≡◌, if◌then◌else◌, ℕ, ◌^◌, not, ◌||◌, List, [], ◌∷◌, map, Bool, bytes_eq, codes, is_some, Option, Some, None, option_and_then, option_map, unwrap_or, false}
 use Rattle.std.specs.Borrow.{Bor}
 use Rattle.std.specs.Str.Parse.{digits_value, without_leading_plus}
 use Rattle.clap.specs.Kinds.{Kinds, or_else}
 use Rattle.clap.specs.Simple.{subcommand_of}
 use Rattle.clap.specs.ValueTests.{is_unsigned_in}
-use Rattle.clap.specs.Walk.{Row, Text, first_of, one_of}
+use Rattle.clap.specs.Walk.{Row, Text, all_of, first_of, one_of}
 use Rattle.clap.specs.Faults.{fault_of}
 use Rattle.clap.specs.declared.error.kind.ErrorKind.{ErrorKind}
 use Rattle.clap.specs.declared.error.kind.ErrorKind.TheVariants.{ArgumentConflict, MissingRequiredArgument, ValueValidation}
@@ -34,6 +34,10 @@ use Rattle.br_cli_common.specs.declared.options.Syncs.{Syncs}
 use Rattle.br_cli_common.specs.declared.options.Syncs.TheVariants as syncs
 use Rattle.br_cli_common.specs.declared.options.Invocation.{Invocation}
 use Rattle.br_cli_common.specs.declared.options.Invocation.TheVariants as commands
+use Rattle.br_cli_common.specs.declared.options.Marks.{Marks}
+use Rattle.br_cli_common.specs.declared.options.Marks.TheVariants as marks
+use Rattle.br_cli_common.specs.declared.options.Printed.{Printed}
+use Rattle.br_cli_common.specs.declared.options.Printed.TheVariants as prints
 use Rattle.br_cli_common.specs.declared.options.Target.{Target}
 use Rattle.br_cli_common.specs.declared.options.Target.TheVariants as targets
 
@@ -44,22 +48,33 @@ pub data Goal : Type 0 where
   TarFile : Text → Goal
   TarOutput : Goal
 
+-- what a restore by a bootstrap prints: its manifest; or words, with the manifest in this file, if there
+-- is one
+pub data Printing : Type 0 where
+  Manifest : Printing
+  Words : Option Text → Printing
+
+-- how the paths to restore are marked: by the lines of a session, or by these patterns
+pub data Marking : Type 0 where
+  Lines : Marking
+  Patterns : List Text → Marking
+
 -- A command of the program. A script, and the memory for data. A script, a catalogue's file, the
 -- folder of the volumes and the memory. A bootstrap's file, the folder of the volumes, the target
 -- of the files, the number of drives, the memory, the further wishes, what the folder may hold,
--- whether files are synced, whether progress is shown, and the file of a log, if there is one. A
--- catalogue's file, the folder of the volumes, client, file set and moment, the rows of files that
--- are looked at, the target of the files, the number of drives, the memory, the further wishes, what
--- the folder may hold, whether files are synced, whether progress is shown, and the files of a log and
--- of a manifest, if there are any. A bootstrap's file, the folder
--- of the volumes, what is done with checksums, and the memory. A catalogue's file; client, file set
+-- whether files are synced, whether progress is shown, the file of a log, if there is one, and what is
+-- printed. A catalogue's file, the folder of the volumes, client, file set and moment, the rows of files
+-- that are looked at, how paths are marked, the target of the files, the number of drives, the memory,
+-- the further wishes, what the folder may hold, whether files are synced, whether progress is shown, and
+-- the files of a log and of a manifest, if there are any. A bootstrap's file, the folder of the volumes,
+-- what is done with checksums, and the memory. A catalogue's file; client, file set
 -- and moment of jobs, each if it is given; the rows of files that are looked at; and the zones in
 -- which moments are shown. A catalogue's file. A number. All numbers.
 pub data CommandAsked : Type 0 where
   Serve : ℕ → CommandAsked
   ServeFiles : Text → Text → ℕ → CommandAsked
-  Extract : Text → Text → Goal → ℕ → ℕ → Wanted → Start → Syncs → Progress → Option Text → CommandAsked
-  Console : Text → Text → Text → Text → Text → FileRows → Goal → ℕ → ℕ → Wanted → Start → Syncs → Progress → Option Text → Option Text → CommandAsked
+  Extract : Text → Text → Goal → ℕ → ℕ → Wanted → Start → Syncs → Progress → Option Text → Printing → CommandAsked
+  Console : Text → Text → Text → Text → Text → FileRows → Marking → Goal → ℕ → ℕ → Wanted → Start → Syncs → Progress → Option Text → Option Text → CommandAsked
   Check : Text → Text → Checksums → ℕ → CommandAsked
   Jobs : Text → Option Text → Option Text → Option Text → FileRows → Clock → CommandAsked
   Migrate : Text → CommandAsked
@@ -77,15 +92,26 @@ target targets.TarOutput = TarOutput
 abbrev pub text_of : Option (Bor Text) → Option Text
 text_of value = option_map (λ s. s.now) value
 
+-- what the program prints
+abbrev pub printing : Printed → Printing
+printing prints.Manifest = Manifest
+printing (prints.Words file) = Words (text_of file)
+
+-- how the program marks paths
+abbrev pub marking : Marks → Marking
+marking marks.Lines = Lines
+marking (marks.Patterns patterns) = Patterns (map (λ p. p.now) patterns.items)
+
 -- the program's command for a command line
 abbrev pub asked : Invocation → CommandAsked
 asked (commands.Serve memory) = Serve memory
 asked (commands.ServeFiles o) = ServeFiles o.db.now o.volumes.now o.memory
 asked (commands.Extract o) =
     Extract o.bsr.now o.volumes.now (target o.target) o.drives o.memory o.wanted o.start o.syncs o.progress (text_of o.log)
+    (printing o.printed)
 asked (commands.Console o) =
-    Console o.db.now o.volumes.now o.client.now o.fileset.now o.before.now o.file_rows (target o.target) o.drives o.memory o.wanted o.start o.syncs o.progress
-    (text_of o.log) (text_of o.manifest)
+    Console o.db.now o.volumes.now o.client.now o.fileset.now o.before.now o.file_rows (marking o.marks) (target o.target) o.drives o.memory o.wanted o.start o.syncs
+    o.progress (text_of o.log) (text_of o.manifest)
 asked (commands.Check o) = Check o.bsr.now o.volumes.now o.checksums o.memory
 asked (commands.Jobs o) = Jobs o.db.now (text_of o.client) (text_of o.fileset) (text_of o.before) o.file_rows o.clock
 asked (commands.Migrate db) = Migrate db.now
@@ -240,7 +266,7 @@ extract_asked rows =
     option_and_then (λ goal.
     option_and_then (λ drives.
     option_and_then (λ memory.
-    option_map (λ start. Extract bsr volumes goal drives memory (wanted_asked rows) start (syncs_asked rows) (progress_asked rows) (log_asked rows))
+    option_map (λ start. Extract bsr volumes goal drives memory (wanted_asked rows) start (syncs_asked rows) (progress_asked rows) (log_asked rows) Manifest)
     (start_for goal (start_asked rows)))
     (memory_asked rows))
     (drives_asked rows))
@@ -259,7 +285,7 @@ console_asked rows =
     option_and_then (λ goal.
     option_and_then (λ drives.
     option_and_then (λ memory.
-    option_map (λ start. Console db volumes client fileset before (file_rows_asked rows) goal drives memory (session_wanted rows) start (syncs_asked rows)
+    option_map (λ start. Console db volumes client fileset before (file_rows_asked rows) Lines goal drives memory (session_wanted rows) start (syncs_asked rows)
     (progress_asked rows) (log_asked rows) (manifest_asked rows))
     (start_for goal (start_asked rows)))
     (memory_asked rows))
@@ -270,6 +296,90 @@ console_asked rows =
     (first_of (codes "client") rows))
     (first_of (codes "volumes") rows))
     (first_of (codes "db") rows)
+
+-- the target of `restore`, which needs one
+abbrev pub given_goal : Goal → Option Goal
+given_goal Nowhere = None
+given_goal (Folder folder) = Some (Folder folder)
+given_goal (TarFile file) = Some (TarFile file)
+given_goal TarOutput = Some TarOutput
+
+-- what the target of `restore` may hold: a folder may hold files of an earlier restore
+abbrev pub careful_start : Goal → Start
+careful_start (Folder folder) = starts.Resumed
+careful_start Nowhere = starts.Empty
+careful_start (TarFile file) = starts.Empty
+careful_start TarOutput = starts.Empty
+
+-- the wishes of `restore` by a bootstrap: of each path the newest copy, with what is missing reported,
+-- and files that can't be written left out
+abbrev pub careful : Wanted
+careful = record { copies = copies.Newest; gaps = gaps.Reported; stops = stops.Never }
+
+-- those of `restore` by a catalogue, which has one copy of each path
+abbrev pub careful_session : Wanted
+careful_session = record { copies = copies.All; gaps = gaps.Reported; stops = stops.Never }
+
+-- the command `restore` by a bootstrap, by the values that were found for its options
+unfoldable pub restore_bootstrap : List Row → Option CommandAsked
+restore_bootstrap rows =
+    option_and_then (λ bsr.
+    option_and_then (λ volumes.
+    option_and_then (λ goal.
+    option_and_then (λ drives.
+    option_map (λ memory. Extract bsr volumes goal drives memory careful (careful_start goal) (syncs_asked rows) (progress_asked rows) (log_asked rows)
+    (Words (manifest_asked rows)))
+    (memory_asked rows))
+    (drives_asked rows))
+    (option_and_then given_goal (target_asked rows)))
+    (first_of (codes "volumes") rows))
+    (first_of (codes "bsr") rows)
+
+-- the moment of `restore`: the last one if none is given
+abbrev pub before_asked : List Row → Text
+before_asked rows = unwrap_or (first_of (codes "before") rows) (codes "9999-12-31 23:59:59")
+
+-- the patterns of `restore`: that of all paths if none is given
+abbrev pub patterns_or_all : Option (List Text) → List Text
+patterns_or_all None = codes "/" ∷ []
+patterns_or_all (Some []) = codes "/" ∷ []
+patterns_or_all (Some (pattern ∷ more)) = pattern ∷ more
+
+-- the same by the values that were found
+unfoldable pub patterns_asked : List Row → List Text
+patterns_asked rows = patterns_or_all (all_of (codes "pattern") rows)
+
+-- the command `restore` by a catalogue, by the values that were found for its options
+unfoldable pub restore_paths : List Row → Option CommandAsked
+restore_paths rows =
+    option_and_then (λ db.
+    option_and_then (λ volumes.
+    option_and_then (λ client.
+    option_and_then (λ fileset.
+    option_and_then (λ goal.
+    option_and_then (λ drives.
+    option_map (λ memory. Console db volumes client fileset (before_asked rows) file_rows.Needed (Patterns (patterns_asked rows)) goal drives memory
+    careful_session (careful_start goal) (syncs_asked rows) (progress_asked rows) (log_asked rows) (manifest_asked rows))
+    (memory_asked rows))
+    (drives_asked rows))
+    (option_and_then given_goal (target_asked rows)))
+    (first_of (codes "fileset") rows))
+    (first_of (codes "client") rows))
+    (first_of (codes "volumes") rows))
+    (first_of (codes "db") rows)
+
+-- whether something was given that goes with a catalogue alone
+abbrev pub has_choice : List Row → Bool
+has_choice rows =
+    is_some (first_of (codes "db") rows) || is_some (first_of (codes "client") rows) || is_some (first_of (codes "fileset") rows)
+    || is_some (first_of (codes "before") rows) || is_some (first_of (codes "pattern") rows)
+
+-- the command `restore` by the values that were found for its options
+unfoldable pub restore_asked : List Row → Option CommandAsked
+restore_asked rows =
+    if not (is_some (first_of (codes "bsr") rows)) then restore_paths rows
+    else if has_choice rows then None
+    else restore_bootstrap rows
 
 -- the command `check` by the values that were found for its options
 unfoldable pub check_asked : List Row → Option CommandAsked
@@ -314,7 +424,8 @@ migrate_asked rows = option_map Migrate (first_of (codes "db") rows)
 unfoldable pub asked_by : Option (Text × List Row) → Option CommandAsked
 asked_by None = Some (Serve default_memory)
 asked_by (Some (name, rows)) =
-    if bytes_eq name (codes "extract") then extract_asked rows
+    if bytes_eq name (codes "restore") then restore_asked rows
+    else if bytes_eq name (codes "extract") then extract_asked rows
     else if bytes_eq name (codes "console") then console_asked rows
     else if bytes_eq name (codes "check") then check_asked rows
     else if bytes_eq name (codes "jobs") then jobs_asked rows

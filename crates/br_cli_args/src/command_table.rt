@@ -51,45 +51,60 @@ const VERIFY_CATALOGUE: OptionRow = OptionRow {
     help: "Checks all rows of files in the catalogue, and not only those of the jobs that are needed",
 };
 
+/// The option for the folder of the restored files.
+const INTO: OptionRow = OptionRow {
+    name: "into",
+    value: "DIR",
+    takes: ValueKind::Value,
+    help: "The empty folder to write the restored files into",
+};
+
+/// The option for the tar stream of the restored files.
+const TAR: OptionRow = OptionRow {
+    name: "tar",
+    value: "FILE",
+    takes: ValueKind::Value,
+    help: "The new file to write the restored files into as a tar stream, - for standard output",
+};
+
+/// The option to sync what is written.
+const SYNC: OptionRow = OptionRow {
+    name: "sync",
+    value: "",
+    takes: ValueKind::Nothing,
+    help: "Syncs the files and folders that it makes, so that they outlast a loss of power",
+};
+
+/// The option to show no progress.
+const QUIET: OptionRow = OptionRow {
+    name: "quiet",
+    value: "",
+    takes: ValueKind::Nothing,
+    help: "Does not show at a terminal how far the restore is",
+};
+
+/// The option for the log.
+const LOG: OptionRow = OptionRow {
+    name: "log",
+    value: "FILE",
+    takes: ValueKind::Value,
+    help: "The file to append a log to, - for standard error: each file as it is written, and what went wrong",
+};
+
 /// The options of every restore.
 const RESTORING: [OptionRow; 7] = [
-    OptionRow {
-        name: "into",
-        value: "DIR",
-        takes: ValueKind::Value,
-        help: "The empty folder to write the restored files into",
-    },
-    OptionRow {
-        name: "tar",
-        value: "FILE",
-        takes: ValueKind::Value,
-        help: "The new file to write the restored files into as a tar stream, - for standard output",
-    },
+    INTO,
+    TAR,
     OptionRow {
         name: "drives",
         value: "N",
-        takes: ValueKind::Drives,
+        takes: ValueKind::OneDrive,
         help: "The number of drives that read the volumes at once, 1 to 16",
     },
     MEMORY,
-    OptionRow {
-        name: "sync",
-        value: "",
-        takes: ValueKind::Nothing,
-        help: "Syncs the files and folders that it makes, so that they outlast a loss of power",
-    },
-    OptionRow {
-        name: "quiet",
-        value: "",
-        takes: ValueKind::Nothing,
-        help: "Does not show at a terminal how far the restore is",
-    },
-    OptionRow {
-        name: "log",
-        value: "FILE",
-        takes: ValueKind::Value,
-        help: "The file to append a log to, - for standard error: each file as it is written, and what went wrong",
-    },
+    SYNC,
+    QUIET,
+    LOG,
 ];
 
 /// The option to report missing files.
@@ -131,6 +146,70 @@ const CHOICES: [OptionRow; 4] = [
 
 /// Those of a restore of marked files, which has one copy of each path.
 const SESSION_CHOICES: [OptionRow; 3] = [COMPLETE, KEEP_GOING, RESUME];
+
+/// The options of `restore`.
+const RESTORE: [OptionRow; 15] = [
+    OptionRow {
+        name: "pattern",
+        value: "PATTERN",
+        takes: ValueKind::Several,
+        help: "The paths to restore: each whole, or with * and ? after its last slash; all if there is none",
+    },
+    OptionRow {
+        name: "bsr",
+        value: "FILE",
+        takes: ValueKind::Value,
+        help: "The file of the bootstrap, - for standard input",
+    },
+    OptionRow {
+        name: "db",
+        value: "FILE",
+        takes: ValueKind::Value,
+        help: "The file of the catalogue, if there is no bootstrap",
+    },
+    OptionRow {
+        name: "client",
+        value: "NAME",
+        takes: ValueKind::Value,
+        help: "The name of the client in the catalogue",
+    },
+    OptionRow {
+        name: "fileset",
+        value: "NAME",
+        takes: ValueKind::Value,
+        help: "The name of the file set in the catalogue",
+    },
+    OptionRow {
+        name: "before",
+        value: "MOMENT",
+        takes: ValueKind::Value,
+        help: "Uses only jobs that began before YYYY-MM-DD HH:MM:SS, in UTC; all jobs if it is left out",
+    },
+    VOLUMES,
+    OptionRow {
+        name: "into",
+        value: "DIR",
+        takes: ValueKind::Value,
+        help: "The folder to write the restored files into, empty or with files of an earlier restore",
+    },
+    TAR,
+    OptionRow {
+        name: "drives",
+        value: "N",
+        takes: ValueKind::FourDrives,
+        help: "The number of drives that read the volumes at once, 1 to 16",
+    },
+    MEMORY,
+    SYNC,
+    QUIET,
+    LOG,
+    OptionRow {
+        name: "manifest",
+        value: "FILE",
+        takes: ValueKind::Value,
+        help: "The file to write the manifest to; what is in it is replaced",
+    },
+];
 
 /// The options that only `extract` has.
 const EXTRACT: [OptionRow; 2] = [BSR, VOLUMES];
@@ -241,10 +320,17 @@ const MIGRATE: [OptionRow; 1] = [DB];
 const NONE: [OptionRow; 0] = [];
 
 /// The commands, in the order of the help.
-const COMMANDS: [CommandRow; 7] = [
+const COMMANDS: [CommandRow; 8] = [
+    CommandRow {
+        name: "restore",
+        about: "Restores the newest copy of each file, and says what did not come back",
+        own: &RESTORE,
+        restoring: &NONE,
+        choices: &NONE,
+    },
     CommandRow {
         name: "extract",
-        about: "Restores the files of a bootstrap from a folder of volumes",
+        about: "Restores the files of a bootstrap, each copy as it comes",
         own: &EXTRACT,
         restoring: &RESTORING,
         choices: &CHOICES,

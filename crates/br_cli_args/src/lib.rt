@@ -6,6 +6,7 @@ mod byte_size;
 mod command_row;
 mod command_table;
 mod option_row;
+mod restore_words;
 mod words;
 
 pub use words::read_words;

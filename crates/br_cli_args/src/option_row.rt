@@ -3,7 +3,7 @@ ghost use Rattle.std.specs.Prelude.{◌≡◌, false, fold, IfOk};
 ghost use Rattle.clap.specs.Simple.{with_rule};
 ghost use Rattle.clap.specs.Words.{app_of, rule_of};
 ghost use Rattle.clap.specs.declared.builder.command.Command.TheViews.{out-Command as fields_of};
-ghost use Rattle.br_cli_args.specs.ClapCommands.{drives_rule, flag_rule, memory_rule, number_rule, value_rule};
+ghost use Rattle.br_cli_args.specs.ClapCommands.{drives_rule, flag_rule, number_rule, value_rule, values_rule};
 ghost use Rattle.br_cli_args.specs.CommandRows.{rule_of_row, with_rows};
 
 use clap::builder::ValueParser;
@@ -23,11 +23,15 @@ pub(crate) enum ValueKind {
     /// A value that is not empty. The option is required.
     Needed,
     /// The number of drives, 1 to 16; 1 if the option is omitted.
-    Drives,
+    OneDrive,
+    /// The number of drives, 1 to 16; 4 if the option is omitted.
+    FourDrives,
     /// The size of the memory for data; 1 GiB if the option is omitted.
     Memory,
     /// The number to explain, without a name before it. It may be omitted.
     Number,
+    /// Any number of values that are not empty, without a name before them.
+    Several,
 }
 
 /// An option of a command.
@@ -65,9 +69,9 @@ fn flag_option<'a>(alloc: Global, row: &OptionRow) -> Arg<'a>
         .help(row.help)
 }
 
-/// Returns the option for the number of drives, which is 1 if it is omitted.
-fn drives_option<'a>(alloc: Global, row: &OptionRow) -> Arg<'a>
-    ensures rule { rule_of result ≡ drives_rule row.now.name.now }
+/// Returns the option for the number of drives, which is the default if it is omitted.
+fn drives_option<'a>(alloc: Global, row: &OptionRow, default: &'static str) -> Arg<'a>
+    ensures rule { rule_of result ≡ drives_rule default.now row.now.name.now }
     ensures local { result.global ≡ false }
 {
     Arg::new(alloc, row.name)
@@ -75,7 +79,7 @@ fn drives_option<'a>(alloc: Global, row: &OptionRow) -> Arg<'a>
         .value_name(row.value)
         .value_parser(ValueParser::Unsigned(1, 16))
         .action(ArgAction::Set)
-        .default_value("1")
+        .default_value(default)
         .help(row.help)
 }
 
@@ -91,6 +95,18 @@ fn number_argument<'a>(alloc: Global, row: &OptionRow) -> Arg<'a>
         .help(row.help)
 }
 
+/// Returns the argument for any number of values.
+fn values_argument<'a>(alloc: Global, row: &OptionRow) -> Arg<'a>
+    ensures rule { rule_of result ≡ values_rule row.now.name.now }
+    ensures local { result.global ≡ false }
+{
+    Arg::new(alloc, row.name)
+        .value_name(row.value)
+        .value_parser(ValueParser::NonEmptyString)
+        .action(ArgAction::Append)
+        .help(row.help)
+}
+
 /// Returns the option of a row.
 #[tactic(auto, unfolding(crate::specs::CommandRows::rule_of_row))]
 fn option_of<'a>(alloc: Global, row: &OptionRow) -> Arg<'a>
@@ -101,9 +117,11 @@ fn option_of<'a>(alloc: Global, row: &OptionRow) -> Arg<'a>
         ValueKind::Nothing => flag_option(alloc, row),
         ValueKind::Value => value_option(alloc, row, false),
         ValueKind::Needed => value_option(alloc, row, true),
-        ValueKind::Drives => drives_option(alloc, row),
+        ValueKind::OneDrive => drives_option(alloc, row, "1"),
+        ValueKind::FourDrives => drives_option(alloc, row, "4"),
         ValueKind::Memory => value_option(alloc, row, false).default_value("1G"),
         ValueKind::Number => number_argument(alloc, row),
+        ValueKind::Several => values_argument(alloc, row),
     }
 }
 

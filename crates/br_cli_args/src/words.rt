@@ -16,20 +16,21 @@ ghost use Rattle.br_cli_args.specs.Words.{kind_by, kind_in, session_wanted, tar_
 
 use crate::byte_size::read_size;
 use crate::command_table::{error_of, program};
+use crate::restore_words::{restore_found, restore_lacks};
 use br_cli_common::{
     CheckOptions, Checksums, Clock, ConsoleOptions, ExtractOptions, FileRows, Invocation,
-    JobsOptions, Progress, ServeOptions, Syncs, Target,
+    JobsOptions, Marks, Printed, Progress, ServeOptions, Syncs, Target,
 };
 use br_types::{Copies, Gaps, Start, Stops, Wanted};
 use clap::error::ErrorKind;
 use clap::{ArgMatches, Command, Error};
-use std::alloc::Global;
+use std::alloc::{AllocError, Global};
 
 /// The memory for data if none is given.
 const DEFAULT_MEMORY: u64 = 1 << 30;
 
 /// Returns what was found for an option.
-fn value_of<'a>(found: &ArgMatches<'a>, name: &str) -> Option<&'a str>
+pub(crate) fn value_of<'a>(found: &ArgMatches<'a>, name: &str) -> Option<&'a str>
     ensures { option_map (λ s. s.now) result ≡ first_of name.now (rows_of (found_of found.now)) }
 {
     // The clause of clap, as a fact about rows.
@@ -61,14 +62,14 @@ fn target_by<'a>(into: Option<&'a str>, tar: Option<&'a str>) -> Option<Target<'
 
 /// Returns the target of the restored files, unless two were found.
 #[tactic(auto, unfolding(crate::specs::Words::target_asked))]
-fn target_of<'a>(found: &ArgMatches<'a>) -> Option<Target<'a>>
+pub(crate) fn target_of<'a>(found: &ArgMatches<'a>) -> Option<Target<'a>>
     ensures { option_map target result ≡ target_asked (rows_of (found_of found.now)) }
 {
     target_by(value_of(found, "into"), value_of(found, "tar"))
 }
 
 /// Returns the number of drives that was found, if it is from 1 to 16.
-fn drives_of(found: &ArgMatches<'_>) -> Option<usize>
+pub(crate) fn drives_of(found: &ArgMatches<'_>) -> Option<usize>
     ensures asked { result ≡ drives_asked (rows_of (found_of found.now)) }
     ensures drives { IfSome result AreFew }
 {
@@ -82,7 +83,7 @@ fn drives_of(found: &ArgMatches<'_>) -> Option<usize>
 
 /// Returns the memory for data that was found, if it is a size.
 #[tactic(auto, unfolding(crate::specs::Words::memory_asked))]
-fn memory_of(found: &ArgMatches<'_>) -> Option<u64>
+pub(crate) fn memory_of(found: &ArgMatches<'_>) -> Option<u64>
     ensures { result ≡ memory_asked (rows_of (found_of found.now)) }
 {
     read_size(value_of(found, "memory")?.as_bytes())
@@ -218,7 +219,7 @@ fn syncs_by(is_synced: bool) -> Syncs
 
 /// Returns whether the files of a delivery are synced.
 #[tactic(auto, unfolding(crate::specs::Words::syncs_asked))]
-fn syncs_of(found: &ArgMatches<'_>) -> Syncs
+pub(crate) fn syncs_of(found: &ArgMatches<'_>) -> Syncs
     ensures { result ≡ syncs_asked (rows_of (found_of found.now)) }
 {
     syncs_by(is_found(found, "sync"))
@@ -256,7 +257,7 @@ fn progress_by(is_quiet: bool) -> Progress
 
 /// Returns true if a terminal shows the progress of the restore.
 #[tactic(auto, unfolding(crate::specs::Words::progress_asked))]
-fn progress_of(found: &ArgMatches<'_>) -> Progress
+pub(crate) fn progress_of(found: &ArgMatches<'_>) -> Progress
     ensures { result ≡ progress_asked (rows_of (found_of found.now)) }
 {
     progress_by(is_found(found, "quiet"))
@@ -331,6 +332,7 @@ fn extract_found<'a>(found: &ArgMatches<'a>) -> Option<Invocation<'a>>
         syncs: syncs_of(found),
         progress: progress_of(found),
         log: value_of(found, "log"),
+        printed: Printed::Manifest,
     }))
 }
 
@@ -353,6 +355,7 @@ fn console_found<'a>(found: &ArgMatches<'a>) -> Option<Invocation<'a>>
         fileset,
         before,
         file_rows: file_rows_of(found),
+        marks: Marks::Lines,
         target,
         drives: drives_of(found)?,
         memory: memory_of(found)?,
@@ -460,21 +463,29 @@ fn found_command<'m, 'a>(matches: &'m ArgMatches<'a>) -> Option<(&'a str, &'m Ar
 }
 
 /// Returns the command that was found, if all its required options were.
+///
+/// # Errors
+///
+/// `AllocError` if memory runs out.
 #[tactic(auto, unfolding(crate::specs::Words::asked_by))]
-fn invocation_of<'a>(matches: &ArgMatches<'a>) -> Option<Invocation<'a>>
-    ensures asked { option_map asked result ≡ asked_by (subcommand_rows_of matches.now) }
-    ensures drives { IfSome result HasDrives }
+fn invocation_of<'a>(
+    alloc: Global,
+    matches: &ArgMatches<'a>,
+) -> Result<Option<Invocation<'a>>, AllocError>
+    ensures asked { IfOk result (λ found. option_map asked found ≡ asked_by (subcommand_rows_of matches.now)) }
+    ensures drives { IfOk result (λ found. IfSome found HasDrives) }
 {
     match found_command(matches) {
-        None => Some(Invocation::Serve(DEFAULT_MEMORY)),
-        Some((name, found)) if name == "extract" => extract_found(found),
-        Some((name, found)) if name == "console" => console_found(found),
-        Some((name, found)) if name == "check" => check_found(found),
-        Some((name, found)) if name == "jobs" => jobs_found(found),
-        Some((name, found)) if name == "explain" => explain_found(found),
-        Some((name, found)) if name == "serve" => serve_found(found),
-        Some((name, found)) if name == "migrate" => migrate_found(found),
-        Some(_) => None,
+        None => Ok(Some(Invocation::Serve(DEFAULT_MEMORY))),
+        Some((name, found)) if name == "restore" => restore_found(alloc, found),
+        Some((name, found)) if name == "extract" => Ok(extract_found(found)),
+        Some((name, found)) if name == "console" => Ok(console_found(found)),
+        Some((name, found)) if name == "check" => Ok(check_found(found)),
+        Some((name, found)) if name == "jobs" => Ok(jobs_found(found)),
+        Some((name, found)) if name == "explain" => Ok(explain_found(found)),
+        Some((name, found)) if name == "serve" => Ok(serve_found(found)),
+        Some((name, found)) if name == "migrate" => Ok(migrate_found(found)),
+        Some(_) => Ok(None),
     }
 }
 
@@ -521,6 +532,14 @@ fn is_resumed(matches: &ArgMatches<'_>) -> bool {
     }
 }
 
+/// Returns what `restore` lacks.
+fn lacks_of(matches: &ArgMatches<'_>) -> &'static str {
+    match found_command(matches) {
+        None => "",
+        Some((_, found)) => restore_lacks(found),
+    }
+}
+
 /// Returns the message for a fault of this kind.
 fn text_of_fault(matches: &ArgMatches<'_>, kind: ErrorKind) -> &'static str {
     match kind {
@@ -530,6 +549,7 @@ fn text_of_fault(matches: &ArgMatches<'_>, kind: ErrorKind) -> &'static str {
         ErrorKind::ValueValidation => {
             "the value of '--memory <SIZE>' is no number of bytes below 2^64, alone or with K, M, G or T"
         }
+        _ if name_found(matches) == "restore" => lacks_of(matches),
         _ if is_resumed(matches) => "the argument '--resume' must be given with '--into <DIR>'",
         _ => "the arguments '--db <FILE>' and '--volumes <DIR>' must be given together",
     }
@@ -548,18 +568,22 @@ fn name_found<'a>(matches: &ArgMatches<'a>) -> &'a str {
 type Found<'a> = (Option<Invocation<'a>>, ErrorKind, &'static str, &'a str);
 
 /// Returns what was found in a command line.
-fn found_in<'a>(matches: &ArgMatches<'a>) -> Found<'a>
-    ensures asked { option_map asked result.0 ≡ asked_by (subcommand_rows_of matches.now) }
-    ensures drives { IfSome result.0 HasDrives }
-    ensures kind { result.1 ≡ kind_by (subcommand_rows_of matches.now) }
+///
+/// # Errors
+///
+/// `AllocError` if memory runs out.
+fn found_in<'a>(alloc: Global, matches: &ArgMatches<'a>) -> Result<Found<'a>, AllocError>
+    ensures asked { IfOk result (λ found. option_map asked found.0 ≡ asked_by (subcommand_rows_of matches.now)) }
+    ensures drives { IfOk result (λ found. IfSome found.0 HasDrives) }
+    ensures kind { IfOk result (λ found. found.1 ≡ kind_by (subcommand_rows_of matches.now)) }
 {
     let kind = kind_of_fault(matches);
-    (
-        invocation_of(matches),
+    Ok((
+        invocation_of(alloc, matches)?,
         kind,
         text_of_fault(matches, kind),
         name_found(matches),
-    )
+    ))
 }
 
 /// Returns what clap finds in the words of a command line.
@@ -584,7 +608,7 @@ fn read_by<'a>(
     ensures fails { FailsBy (words_fault (map string_bytes words.entry.now)) result }
     ensures drives { IfOk result HasDrives }
 {
-    let (found, kind, text, name) = found_in(&parsed(command, words)?);
+    let (found, kind, text, name) = found_in(alloc, &parsed(command, words)?)?;
     match found {
         Some(invocation) => Ok(invocation),
         None => Err(error_of(alloc, name, kind, text)?),
@@ -593,13 +617,14 @@ fn read_by<'a>(
 
 /// Reads the words of a command line; the first is the program's name.
 ///
-/// The commands are `extract --bsr FILE --volumes DIR`, `console --db FILE --volumes DIR --client
+/// The commands are `restore --volumes DIR` with `--bsr FILE`, or with `--db FILE --client NAME
+/// --fileset NAME`, `--before MOMENT` and patterns, `extract --bsr FILE --volumes DIR`, `console --db FILE --volumes DIR --client
 /// NAME --fileset NAME --before MOMENT`, `check --bsr FILE --volumes DIR [--checksums]`, `jobs --db
 /// FILE [--client NAME] [--fileset NAME] [--before MOMENT] [--local]`, `migrate --db FILE`,
-/// `explain [N]` and `serve`. The first two also take `--into DIR` or `--tar FILE`, `--drives N`,
-/// `--sync`, `--quiet`, `--log FILE`, `--complete`, `--keep-going` and, with `--into`, `--resume`.
-/// The first takes `--newest`, and the second `--manifest FILE`. The last takes `--db FILE` and
-/// `--volumes DIR`, both or neither. All that restore, and `check`, take `--memory SIZE`: bytes, or a
+/// `explain [N]` and `serve`. `restore`, `extract` and `console` also take `--into DIR` or `--tar FILE`, `--drives N`,
+/// `--sync`, `--quiet` and `--log FILE`; the last two `--complete`, `--keep-going` and, with `--into`,
+/// `--resume`. `extract` takes `--newest`, `restore` and `console` take `--manifest FILE`. `serve` takes
+/// `--db FILE` and `--volumes DIR`, both or neither. All that restore, and `check`, take `--memory SIZE`: bytes, or a
 /// number with K, M, G or T. No command is the same as `serve`.
 ///
 /// # Errors

@@ -114,8 +114,8 @@ rows_from_50 =
     (codes "No good Full backup of this client and file set began before the moment.")
     (codes "Choose a later moment, in UTC, or restore by a bootstrap with `extract`.") ∷
     row_with 51 (codes "NothingMarked")
-    (codes "No path was marked when `done` was typed.")
-    (codes "Run the command again, and mark paths before `done`.") ∷
+    (codes "No path was marked when `done` was typed, or no pattern of `restore` meets a path.")
+    (codes "Run the command again, and mark paths before `done`, or name paths that `console` lists.") ∷
     row_with 52 (codes "BadMoment")
     (codes "The value of `--before` is not a moment.")
     (codes "Write it in quotes, in UTC and with all digits, such as `'2026-11-21 23:15:45'`.") ∷

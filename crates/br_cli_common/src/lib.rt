@@ -27,7 +27,7 @@ pub use failed_thing::{Matter, Reason, Thing};
 pub use failure_reason::{reason_of_file, reason_of_folder, reason_of_new_file, reason_of_read};
 pub use options::{
     CheckOptions, Checksums, Clock, ConsoleOptions, ExtractOptions, FileRows, Invocation,
-    JobsOptions, Progress, ServeOptions, Syncs, Target,
+    JobsOptions, Marks, Printed, Progress, ServeOptions, Syncs, Target,
 };
 pub use prompt::{Prompted, greet, is_attended, with_prompt};
 pub use refusal::{Refusal, explain, refusals_below_50, refusals_from_50};

@@ -31,6 +31,25 @@ pub enum Syncs {
     Each,
 }
 
+/// What a restore by a bootstrap prints.
+#[derive(Clone, Copy)]
+pub enum Printed<'a> {
+    /// The manifest, and words to a terminal alone.
+    Manifest,
+    /// Words, wherever standard error goes. The manifest goes to this file, if there is one. What is
+    /// in it is replaced.
+    Words(Option<&'a str>),
+}
+
+/// How the paths to restore are marked.
+#[derive(Drop)]
+pub enum Marks<'a> {
+    /// By the lines of a session on standard input.
+    Lines,
+    /// By these patterns.
+    Patterns(Vec<&'a str>),
+}
+
 /// The rows of files that are looked at in a catalogue.
 #[derive(Clone, Copy)]
 pub enum FileRows {
@@ -60,6 +79,7 @@ pub struct ExtractOptions<'a> {
     pub progress: Progress,
     /// The file that a log of the restore is appended to, if there is one.
     pub log: Option<&'a str>,
+    pub printed: Printed<'a>,
 }
 
 /// What `check` does with the checksums of blocks.
@@ -83,8 +103,8 @@ pub struct CheckOptions<'a> {
     pub memory: u64,
 }
 
-/// The options of `console`.
-#[derive(Clone, Copy)]
+/// The options of `console`, and of a restore by patterns.
+#[derive(Drop)]
 pub struct ConsoleOptions<'a> {
     /// The file of the catalogue.
     pub db: &'a str,
@@ -95,6 +115,7 @@ pub struct ConsoleOptions<'a> {
     /// The moment, as text.
     pub before: &'a str,
     pub file_rows: FileRows,
+    pub marks: Marks<'a>,
     pub target: Target<'a>,
     /// The number of drives that read the volumes at once, from 1 to 16.
     pub drives: usize,
@@ -149,7 +170,7 @@ pub struct JobsOptions<'a> {
 }
 
 /// A command of the program with its options.
-#[derive(Clone, Copy)]
+#[derive(Drop)]
 pub enum Invocation<'a> {
     /// Runs a script from standard input, with its jobs and volumes in memory, and this number of bytes
     /// of data that a restore holds.
@@ -158,7 +179,8 @@ pub enum Invocation<'a> {
     ServeFiles(ServeOptions<'a>),
     /// Runs a bootstrap over the volumes of a folder.
     Extract(ExtractOptions<'a>),
-    /// Runs a console session over the jobs of a catalogue, and restores what was marked.
+    /// Restores what is marked of the jobs of a catalogue, by the lines of a console session or by
+    /// patterns.
     Console(ConsoleOptions<'a>),
     /// Checks a bootstrap over the volumes of a folder.
     Check(CheckOptions<'a>),

@@ -190,8 +190,8 @@ pub(crate) const FROM_50: [Refusal; 26] = [
     Refusal {
         number: 51,
         name: "NothingMarked",
-        meaning: "No path was marked when `done` was typed.",
-        next: "Run the command again, and mark paths before `done`.",
+        meaning: "No path was marked when `done` was typed, or no pattern of `restore` meets a path.",
+        next: "Run the command again, and mark paths before `done`, or name paths that `console` lists.",
     },
     Refusal {
         number: 52,

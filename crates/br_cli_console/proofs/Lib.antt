@@ -1,2 +1,3 @@
 mod LoadedLaws
+mod NameLaws
 mod SessionLaws

@@ -1,5 +1,5 @@
 -- The tasks of `console`: a session, over drives, writers and a sink.
-use Rattle.std.specs.Prelude.{ℕ, List, map, Option, Some, None, option_map, Result}
+use Rattle.std.specs.Prelude.{◌≡◌, ℕ, List, map, Option, Some, None, option_map, Result, Ok, Err, ⊤}
 use Rattle.std.specs.Borrow.{Bor}
 use Rattle.std.specs.declared.io.Write as write
 use Rattle.br_volume.specs.declared.drive.Drive as drive
@@ -8,17 +8,27 @@ use Rattle.br_engine.specs.Outputs.{InSink}
 use Rattle.br_engine.specs.Restores.{Change}
 use Rattle.br_engine.specs.Restoring.{Told}
 use Rattle.br_engine.specs.declared.restore.Restore.{Restore}
+use Rattle.br_model.specs.Answer.{IsRefusal}
 use Rattle.br_model.specs.Plan.{Plan}
+use Rattle.br_model.specs.Text.{is_empty}
 use Rattle.br_plan.specs.Asked.{Asked}
+use Rattle.br_plan.specs.Fault as plan
+use Rattle.br_console.specs.ConsoleEnding.{are_accepted}
 use Rattle.br_console.specs.Delivering.{BeginsInto, FinishesInto, Puts}
+use Rattle.br_console.specs.MarkedPaths.{missed_of_paths, plan_of_paths, texts}
 use Rattle.br_console.specs.declared.ending.LineVerdict.{LineVerdict}
 use Rattle.br_console.specs.declared.ending.ConsoleRun.{ConsoleRun}
 use Rattle.br_console.specs.declared.console_fault.ConsoleFault.{ConsoleFault}
+use Rattle.br_console.specs.declared.console_fault.ConsoleFault.TheVariants as fault
+use Rattle.br_cli_common.specs.declared.options.Marks.{Marks}
+use Rattle.br_cli_common.specs.declared.options.Marks.TheVariants as marks
 use Rattle.br_cli_progress.specs.declared.watched_sink.WatchedSink.{WatchedSink}
 use Rattle.br_sink_tar.specs.Stream.{InTar}
 use Rattle.br_types.specs.declared.wanted.Wanted.{Wanted}
 use Rattle.br_cli_console.specs.ConsoleCommandEnding.{extent}
 use Rattle.br_cli_console.specs.declared.session_manifest.Outputs.{Outputs}
+use Rattle.br_cli_console.specs.declared.session_manifest.SessionInput.{SessionInput}
+use Rattle.br_cli_console.specs.declared.session_manifest.SessionInput.TheVariants as input
 use Rattle.br_cli_target.specs.TarEnding.{StreamHolds, told_inside}
 use Rattle.br_cli_target.specs.declared.target_tar.Streamed.{Streamed}
 
@@ -67,6 +77,49 @@ RunsWith None (Some holds) order lines seen result = ⊥
 abbrev pub RunsBy : Bor Asked × Wanted → Option (List ℕ) → SessionChange → Result ConsoleRun ConsoleFault → Type 0
 RunsBy order lines seen result = RunsWith seen.old.manifest seen.new.manifest order lines seen result
 
+-- what comes of the part of a session before a drive is used
+abbrev pub Prepared : Type 0
+Prepared = Result (LineVerdict × Option Plan) ConsoleFault
+
+-- the rest of a session after that, by what the writer of the manifest held and holds, if there is one
+abbrev pub FinishesWith : Option (Option (List ℕ)) → Option (Option (List ℕ)) → Wanted → SessionChange → Prepared → Result ConsoleRun ConsoleFault → Type 0
+FinishesWith None None wanted seen prepared result = FinishesInto wanted (by_answers seen) prepared result
+FinishesWith (Some held) (Some holds) wanted seen prepared result = FinishesInto wanted (by_manifest seen held holds) prepared result
+FinishesWith (Some held) None wanted seen prepared result = ⊥
+FinishesWith None (Some holds) wanted seen prepared result = ⊥
+
+-- the rest of a session, with what is wanted
+abbrev pub FinishesBy : Wanted → SessionChange → Prepared → Result ConsoleRun ConsoleFault → Type 0
+FinishesBy wanted seen prepared result = FinishesWith seen.old.manifest seen.new.manifest wanted seen prepared result
+
+-- the session of the lines that a reader has, or the rest of one that was prepared
+abbrev pub RunsOn : {R : Type 0} → (R → Option (List ℕ)) → Bor Asked × Wanted → SessionInput R → SessionChange → Result ConsoleRun ConsoleFault → Type 0
+RunsOn remaining order (input.Lines reader) seen result = RunsBy order (remaining reader) seen result
+RunsOn remaining order (input.Prepared prepared) seen result = FinishesBy order.1 seen prepared result
+
+-- the patterns that meet no path, of which the session tells whether there are some
+abbrev pub TellsMissed : Result (List (List ℕ)) ℕ → LineVerdict → Type 0
+TellsMissed missed lines = (patterns : List (List ℕ)) × (missed ≡ Ok patterns) × (are_accepted lines ≡ is_empty patterns)
+
+-- The plan is that of the paths which the patterns name, or refused as that is. It counts as refused
+-- lines if a pattern meets no path.
+abbrev pub PreparesPaths : Asked → List (List ℕ) → Prepared → Type 0
+PreparesPaths asked patterns (Ok (lines, Some plan)) = (plan_of_paths asked patterns ≡ Ok plan) × TellsMissed (missed_of_paths asked patterns) lines
+PreparesPaths asked patterns (Ok (lines, None)) = ⊥
+PreparesPaths asked patterns (Err fault.Memory) = ⊥
+PreparesPaths asked patterns (Err (fault.Plan why)) = IsRefusal (plan.cause why) (plan_of_paths asked patterns)
+PreparesPaths asked patterns (Err (fault.Piece why)) = ⊥
+PreparesPaths asked patterns (Err fault.Changed) = ⊥
+PreparesPaths asked patterns (Err (fault.Io why)) = ⊥
+PreparesPaths asked patterns (Err (fault.NoEnd turns)) = ⊥
+
+-- what a session by these marks runs on: lines, or what the patterns prepare
+abbrev pub IsInputOf : {R : Type 0} → Asked → Marks → SessionInput R → Type 0
+IsInputOf asked marks.Lines (input.Lines reader) = ⊤
+IsInputOf asked marks.Lines (input.Prepared prepared) = ⊥
+IsInputOf asked (marks.Patterns patterns) (input.Lines reader) = ⊥
+IsInputOf asked (marks.Patterns patterns) (input.Prepared prepared) = PreparesPaths asked (texts patterns.items) prepared
+
 -- what a session shows, if its sink has these files
 abbrev pub shows : {D W M S : Type 0} → drive.Ghosts D → write.Ghosts W → write.Ghosts M → Restore D S × Outputs W M → InSink → SessionSeen
 shows drives answers manifest at has = record {
@@ -91,7 +144,8 @@ tar drives answers manifest before after now = record {
 }
 
 -- The sink's stream is that of the files that were reported to it. It has an end if all files were put
--- and the end could be written. `seen` says what changes, if these files were reported.
-abbrev pub Streams : {T : Type 0} → Bor Asked × Wanted → Option (List ℕ) → (InSink → SessionChange) → (T → Option (List ℕ)) → Streamed (Result ConsoleRun ConsoleFault) T → Type 0
-Streams order lines seen holds s =
-    (now : InSink) × RunsBy order lines (seen now) s.run × StreamHolds (extent s.run) now s.end (option_map holds s.writer)
+-- and the end could be written. `runs` says how the session runs, and `seen` what changes, if these files
+-- were reported.
+abbrev pub Streams : {T : Type 0} → (SessionChange → Result ConsoleRun ConsoleFault → Type 0) → (InSink → SessionChange) → (T → Option (List ℕ)) → Streamed (Result ConsoleRun ConsoleFault) T → Type 0
+Streams runs seen holds s =
+    (now : InSink) × runs (seen now) s.run × StreamHolds (extent s.run) now s.end (option_map holds s.writer)

@@ -7,3 +7,4 @@ pub mod LoadedJobs
 pub mod LocalCommands
 pub mod DirLines
 pub mod ListedJobs
+pub mod UnmatchedLines

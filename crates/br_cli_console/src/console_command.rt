@@ -1,5 +1,5 @@
 //! The command `console`.
-ghost use Rattle.std.specs.Prelude.{◌≡◌, ◌++◌, length, not, option_map, None, Some, Ok, IfOk, IfSome, IsSome, OnOk};
+ghost use Rattle.std.specs.Prelude.{◌≡◌, ◌++◌, length, option_map, None, Some, Ok, IfOk, IfSome, IsSome, OnOk};
 ghost use Rattle.br_model.specs.Answer.{Answers};
 ghost use Rattle.br_cli_common.specs.Options.{AreFew};
 ghost use Rattle.br_pool.specs.Pool.{AreDrives};
@@ -11,23 +11,28 @@ ghost use Rattle.br_cli_target.specs.AskedTarget.{folder_asked, stream_asked};
 ghost use Rattle.br_cli_console.specs.ConsoleCommandEnding.{end_line, end_status, extent, extent_by, lines_status, put_extent, run_refusal, run_status, status_by};
 ghost use Rattle.br_cli_console.specs.ConsoleStarting.{start_number};
 ghost use Rattle.br_cli_target.specs.TarEnding.{IsShown};
-ghost use Rattle.br_cli_console.specs.ConsoleTasks.{Streams, tar};
+ghost use Rattle.br_cli_target.specs.TextPlaces.{answers_place};
+ghost use Rattle.br_cli_console.specs.ConsoleTasks.{IsInputOf, RunsOn, Streams, tar};
 ghost use Rattle.br_cli_console.specs.declared.console_command.ConsoleStartFault.TheVariants as start;
 
 use crate::chosen_jobs::tell_chosen;
 use crate::helped_reader::{Helped, with_help};
 use crate::loaded_jobs::{ChosenFiles, jobs_in};
+use crate::pattern_marks::prepare_patterns;
 use crate::session_manifest::{
-    Outputs, end_manifest, manifest_at, manifest_writer, refuse_manifest, run_session, told_by,
+    Outputs, SessionInput, end_file, manifest_at, run_session, told_by, watched_outputs,
 };
-use br_cli_common::{BAD_STREAM, CLEAN, ConsoleOptions, Prompted, REFUSED, Target, with_prompt};
+use crate::shown_names::NamesWriter;
+use br_cli_common::{
+    BAD_STREAM, CLEAN, ConsoleOptions, Marks, Prompted, REFUSED, Target, is_attended, with_prompt,
+};
 use br_cli_progress::{Gauge, WatchedSink, WatchedWriter};
 use br_cli_target::{
-    Channel, Ending, LeavingSink, PutExtent, Settle, Streamed, TarFault, ToldOutcomes, add_tar_end,
-    end_stream, folder_of, gauge_of, is_whole, lacks_volumes, leaving_over, left_out, log_fault,
-    refuse_log, refuse_place, restore_over, say_conflicts, say_files, say_nowhere, say_stop,
-    say_volumes, tar_into, tar_output, tell_others, tell_outcomes, with_watched_drives,
-    with_watched_sink,
+    Channel, Ending, LeavingSink, PutExtent, Settle, Streamed, TarFault, TextOutput, ToldOutcomes,
+    add_tar_end, end_stream, folder_of, gauge_of, is_whole, lacks_volumes, leaving_over, left_out,
+    log_fault, refuse_log, refuse_manifest, refuse_place, restore_over, say_conflicts, say_files,
+    say_nowhere, say_stop, say_volumes, tar_into, tar_output, tell_others, tell_outcomes,
+    with_watched_drives, with_watched_sink,
 };
 use br_console::{ConsoleFault, ConsoleRun, End, LineVerdict};
 use br_engine::{Flush, Restore, RestoreEnd};
@@ -40,7 +45,7 @@ use br_types::{Path, Start, Wanted};
 use br_volume::{Drive, HostDrive};
 use std::alloc::{AllocError, Global};
 use std::fs::File;
-use std::io::{self, BufRead, BufReader, BufWriter, Printer, StdinLock};
+use std::io::{self, BufRead, BufReader, BufWriter, IsTerminal, Printer, StdinLock};
 use std::sync::Wait;
 use std::thread::Threads;
 use thiserror::Error;
@@ -123,11 +128,15 @@ pub fn console_ending(
     Ok(Ending { status, refusal })
 }
 
-/// Returns the streams of a session, with the file of its manifest if there is one.
-fn streams_of(rt: &HostRuntime, manifest: Option<&str>) -> Result<String, AllocError> {
-    match manifest {
-        Some(path) => format!(in rt.alloc(); "standard input or output, or {path}"),
-        None => String::from_str(rt.alloc(), "standard input or output"),
+/// Returns the streams of a session, with the file of its manifest if there is one. By patterns it uses
+/// that file alone.
+fn streams_of(rt: &HostRuntime, given: &ConsoleOptions<'_>) -> Result<String, AllocError> {
+    match (&given.marks, given.manifest) {
+        (Marks::Patterns(_), Some(path)) => String::from_str(rt.alloc(), path),
+        (Marks::Lines, Some(path)) => {
+            format!(in rt.alloc(); "standard input or output, or {path}")
+        }
+        (_, None) => String::from_str(rt.alloc(), "standard input or output"),
     }
 }
 
@@ -135,10 +144,10 @@ fn streams_of(rt: &HostRuntime, manifest: Option<&str>) -> Result<String, AllocE
 fn tell_stream(
     rt: &HostRuntime,
     gauge: &Gauge<'_>,
-    manifest: Option<&str>,
+    given: &ConsoleOptions<'_>,
     fault: &ConsoleFault,
 ) -> io::Result<()> {
-    let streams = streams_of(rt, manifest)?;
+    let streams = streams_of(rt, given)?;
     let name = streams.as_str();
     match fault {
         ConsoleFault::Io(e) => eprintln!(rt; "brestore: {name}: {e}")?,
@@ -190,7 +199,7 @@ fn report(
 {
     let (told, failed) = noted;
     if let Err(fault) = run {
-        tell_stream(rt, gauge, given.manifest, fault)?;
+        tell_stream(rt, gauge, given, fault)?;
     }
     gauge.log_refusals(&ending.refusal);
     let status = ending.print(rt)?;
@@ -409,22 +418,32 @@ fn console_stream<
     threads: &(impl Threads + Wait + Sync),
     order: (&JobSelection<'_>, Wanted),
     restore: &mut Restore<D, WatchedSink<'_, '_, TarSink<T>>>,
-    reader: &mut R,
+    input: SessionInput<R>,
     out: &mut Outputs<W, M>,
 ) -> Streamed<Result<ConsoleRun, ConsoleFault>, T>
     requires drives { AreDrives restore.old.drives.items }
     requires shown { W.is_flushed out.old.answers }
     requires fresh { IfSome out.old.manifest M.is_flushed }
     requires sink { IsSome restore.old.sink }
-    ensures streams { Streams order.entry (R.remaining reader.old)
+    ensures streams { Streams (RunsOn R.remaining order.entry input)
         (tar D.Drive W.Write M.Write (restore.old, out.old) (restore.new, out.new)) T.contents result }
     ensures flushed { OnOk result.run (W.is_flushed out.new.answers) }
     ensures apart { OnOk result.run (IfSome out.new.manifest M.is_flushed) }
     ensures shown { IfSome result.writer (λ w. IsShown (T.is_flushed w) result.end) }
 {
-    let run = run_session(threads, restore, order, reader, out);
+    let run = run_session(threads, restore, order, input, out);
     let (writer, end) = end_stream(restore.sink.take(), extent_of(&run));
     Streamed { run, end, writer }
+}
+
+/// Returns a writer of answers to this output. It shows names as they are if a terminal shows them.
+fn answers_to<A: TextOutput + Drop>(
+    rt: &HostRuntime,
+    output: A,
+    is_shown: bool,
+) -> io::Result<NamesWriter<BufWriter<A>>> {
+    let writer = BufWriter::new(rt.alloc(), output)?;
+    Ok(NamesWriter::new(rt.alloc(), writer, is_shown))
 }
 
 /// Returns the lines of standard input, with a prompt before each and with answers to `help` and `dir` if an
@@ -435,6 +454,34 @@ fn lines_of<'a, 'j, 'r>(
 ) -> io::Result<BufReader<Helped<'a, 'j, 'r, Prompted<'r, StdinLock<'r>>>>> {
     let input = with_prompt(rt, GREETING, rt.reader());
     Ok(BufReader::new(rt.alloc(), with_help(rt, asked, input))?)
+}
+
+/// The watched writer of the answers of a session to an output.
+type SessionAnswers<'g, 'r, A> = WatchedWriter<'g, 'r, NamesWriter<BufWriter<A>>>;
+
+/// What a session runs on whose lines come from standard input.
+type HostInput<'a, 'j, 'r> = SessionInput<
+    BufReader<Helped<'a, 'j, 'r, Prompted<'r, StdinLock<'r>>>>,
+>;
+
+/// Returns what a session by these marks runs on: the lines of standard input; or the plan for the paths
+/// that patterns mark, whose bootstrap goes to the writer of the answers.
+fn input_of<'a, 'j, 'r, A: TextOutput + Drop>(
+    watch: (&'r HostRuntime, &Gauge<'_>),
+    asked: &'a JobSelection<'j>,
+    marks: &Marks<'_>,
+    answers: &mut SessionAnswers<'_, '_, A>,
+) -> io::Result<HostInput<'a, 'j, 'r>>
+    ensures marks { IfOk result (IsInputOf asked.now marks.now) }
+{
+    let (rt, gauge) = watch;
+    match marks {
+        Marks::Lines => Ok(SessionInput::Lines(lines_of(rt, asked)?)),
+        Marks::Patterns(patterns) => {
+            let prepared = prepare_patterns(rt, gauge, asked, patterns, answers)?;
+            Ok(SessionInput::Prepared(prepared))
+        }
+    }
 }
 
 /// Prints what else is in the folder of a resumed restore, if the session restored something.
@@ -471,20 +518,23 @@ fn refuse_setup<C: Catalogue>(
     Ok(status)
 }
 
-/// Restores by lines into a folder, or prints the manifest alone if there is none. The manifest goes to
-/// its file if there is one.
-fn restore_into<'r, C: Catalogue>(
+/// Where the answers of a session go, and the file of its manifest, if it has one.
+type SessionOutputs<A> = Outputs<NamesWriter<BufWriter<A>>, File>;
+
+/// Restores what is marked into a folder, or writes the manifest alone if there is none. The manifest
+/// goes to its file if there is one.
+fn restore_into<'r, C: Catalogue, A: TextOutput + Drop>(
     rt: &'r HostRuntime,
     threads: &(impl Threads + Wait + Sync),
     catalogue: &C,
     gauge: &'r Gauge<'r>,
     given: &ConsoleOptions<'_>,
-    file: Option<File>,
+    outputs: SessionOutputs<A>,
 ) -> io::Result<u8>
     requires few { AreFew given.now.drives }
     requires asked { stream_asked given.now.target ≡ None }
+    requires apart { A.place ≡ answers_place given.now.marks given.now.target }
 {
-    let writer = BufWriter::new(rt.alloc(), io::writer(rt))?;
     let (jobs, restore) = match set_up_console(rt, catalogue, gauge, given) {
         Ok(setup) => setup,
         Err(fault) => return refuse_setup(rt, catalogue, gauge, given, &fault),
@@ -492,19 +542,17 @@ fn restore_into<'r, C: Catalogue>(
     let mut restore = with_watched_drives(restore, gauge)?;
     let asked = jobs.selection(rt.alloc());
     let is_warned = tell_chosen(rt, &asked, given.volumes)?;
-    let mut reader = lines_of(rt, &asked)?;
-    let manifest = manifest_writer(rt, gauge, file)?;
-    let answers = WatchedWriter::new(writer, gauge);
-    let mut out = Outputs { answers, manifest };
+    let mut out = watched_outputs(rt, gauge, outputs)?;
+    let input = input_of((rt, gauge), &asked, &given.marks, &mut out.answers)?;
     let order = (&asked, jobs.wanted);
-    let run = run_session(threads, &mut restore, order, &mut reader, &mut out);
+    let run = run_session(threads, &mut restore, order, input, &mut out);
     gauge.clear();
     name_others(rt, gauge, given, &run)?;
     let failed = left_out(&restore.sink);
     let ending = console_ending(rt.alloc(), &run, is_warned, failed)?;
     let told = told_by(&out);
     let status = report(rt, gauge, given, (&told, failed), &run, &ending)?;
-    end_manifest(rt, gauge, given.manifest, &mut out.manifest, status)
+    end_file(rt, gauge, given.manifest, &mut out.manifest, status)
 }
 
 /// Makes what a session needs before it reads a line, to deliver into a new file as a tar stream.
@@ -548,43 +596,41 @@ fn set_up_tar_output<'r, C: Catalogue>(
     set_up_over(rt, catalogue, given, request, sink)
 }
 
-/// Restores by lines into the tar stream that was set up, with the answers to its writer: standard output,
-/// or something else if the stream goes there. The manifest goes to its file if there is one. Returns the
-/// exit status.
-fn restore_onto<'r, T: Channel + Drop, W: Channel + Drop>(
+/// Restores what is marked into the tar stream that was set up, with the answers to their writer, which is
+/// not standard output if the stream goes there. The manifest goes to its file if there is one. Returns
+/// the exit status.
+fn restore_onto<'r, T: Channel + Drop, A: TextOutput + Drop>(
     threads: &(impl Threads + Wait + Sync),
     watch: (&'r HostRuntime, &'r Gauge<'r>),
     given: &ConsoleOptions<'_>,
     setup: ConsoleSetup<'r, TarSink<BufWriter<T>>>,
-    answers: BufWriter<W>,
-    file: Option<File>,
+    outputs: SessionOutputs<A>,
 ) -> io::Result<u8>
     requires few { AreFew (length setup.1.drives.items) }
     requires sink { IsSome setup.1.sink }
     requires asked { stream_asked given.now.target ≡ Some T.is_output }
-    requires apart { W.is_output ≡ not T.is_output }
+    requires apart { A.place ≡ answers_place given.now.marks given.now.target }
 {
     let (rt, gauge) = watch;
     let (jobs, restore) = setup;
     let mut restore = with_watched_sink(with_watched_drives(restore, gauge)?, gauge);
     let asked = jobs.selection(rt.alloc());
     let is_warned = tell_chosen(rt, &asked, given.volumes)?;
-    let mut reader = lines_of(rt, &asked)?;
-    let manifest = manifest_writer(rt, gauge, file)?;
-    let answers = WatchedWriter::new(answers, gauge);
-    let mut out = Outputs { answers, manifest };
+    let mut out = watched_outputs(rt, gauge, outputs)?;
+    let input = input_of((rt, gauge), &asked, &given.marks, &mut out.answers)?;
     let order = (&asked, jobs.wanted);
-    let stream = console_stream(threads, order, &mut restore, &mut reader, &mut out);
+    let stream = console_stream(threads, order, &mut restore, input, &mut out);
     gauge.clear();
     let mut ending = console_ending(rt.alloc(), &stream.run, is_warned, &[])?;
     add_tar_end(&mut ending, stream.end)?;
     let told = told_by(&out);
     let status = report(rt, gauge, given, (&told, &[]), &stream.run, &ending)?;
-    end_manifest(rt, gauge, given.manifest, &mut out.manifest, status)
+    end_file(rt, gauge, given.manifest, &mut out.manifest, status)
 }
 
 /// Reads lines of standard input and answers them on standard output, over the jobs of a client's file set
-/// before a moment in a catalogue. After `done` prints the bootstrap and the manifest, and puts the restored
+/// before a moment in a catalogue. Or marks what patterns say: then only words are printed, to standard
+/// error, and the manifest goes to its file or nowhere. After `done` prints the bootstrap and the manifest, and puts the restored
 /// files where they are to go: into a folder, or as a tar stream into a file or to standard output. In the
 /// last case all that is printed goes to standard error. If a file is given for the manifest, the manifest
 /// goes there. What is refused of a line is part of the answers; any other refusal goes to standard error,
@@ -614,6 +660,7 @@ pub fn restore_marked<C: Catalogue>(
 {
     match gauge_of(rt, given.volumes, given.target, given.progress, given.log) {
         Ok(gauge) => {
+            let gauge = gauge.with_words(matches!(given.marks, Marks::Patterns(_)));
             let status = restore_watched(rt, threads, catalogue, &gauge, given)?;
             gauge.end_log(status)
         }
@@ -646,27 +693,53 @@ fn restore_told<C: Catalogue>(
     catalogue: &C,
     gauge: &Gauge<'_>,
     given: &ConsoleOptions<'_>,
-    file: Option<File>,
+    manifest: Option<File>,
 ) -> io::Result<u8>
     requires few { AreFew given.now.drives }
 {
+    match (&given.marks, given.target) {
+        (Marks::Patterns(_), _) => {
+            let answers = answers_to(rt, io::sink(), false)?;
+            let outputs = Outputs { answers, manifest };
+            restore_to(rt, threads, catalogue, gauge, given, outputs)
+        }
+        (Marks::Lines, Target::TarOutput) => {
+            let answers = answers_to(rt, rt.stderr(), is_attended(rt))?;
+            let outputs = Outputs { answers, manifest };
+            restore_to(rt, threads, catalogue, gauge, given, outputs)
+        }
+        (Marks::Lines, _) => {
+            let is_shown = is_attended(rt) && rt.stdout().is_terminal();
+            let answers = answers_to(rt, io::writer(rt), is_shown)?;
+            let outputs = Outputs { answers, manifest };
+            restore_to(rt, threads, catalogue, gauge, given, outputs)
+        }
+    }
+}
+
+/// Restores into the target, with these outputs.
+fn restore_to<C: Catalogue, A: TextOutput + Drop>(
+    rt: &HostRuntime,
+    threads: &(impl Threads + Wait + Sync),
+    catalogue: &C,
+    gauge: &Gauge<'_>,
+    given: &ConsoleOptions<'_>,
+    outputs: SessionOutputs<A>,
+) -> io::Result<u8>
+    requires few { AreFew given.now.drives }
+    requires apart { A.place ≡ answers_place given.now.marks given.now.target }
+{
     let watch = (rt, gauge);
     match given.target {
-        Target::Nowhere => restore_into(rt, threads, catalogue, gauge, given, file),
-        Target::Folder(_) => restore_into(rt, threads, catalogue, gauge, given, file),
-        Target::TarFile(path) => {
-            let answers = BufWriter::new(rt.alloc(), io::writer(rt))?;
-            match set_up_tar_file(rt, catalogue, given, path) {
-                Ok(setup) => restore_onto(threads, watch, given, setup, answers, file),
-                Err(fault) => refuse_setup(rt, catalogue, gauge, given, &fault),
-            }
-        }
-        Target::TarOutput => {
-            let answers = BufWriter::new(rt.alloc(), rt.stderr())?;
-            match set_up_tar_output(rt, catalogue, given) {
-                Ok(setup) => restore_onto(threads, watch, given, setup, answers, file),
-                Err(fault) => refuse_setup(rt, catalogue, gauge, given, &fault),
-            }
-        }
+        Target::Nowhere => restore_into(rt, threads, catalogue, gauge, given, outputs),
+        Target::Folder(_) => restore_into(rt, threads, catalogue, gauge, given, outputs),
+        Target::TarFile(path) => match set_up_tar_file(rt, catalogue, given, path) {
+            Ok(setup) => restore_onto(threads, watch, given, setup, outputs),
+            Err(fault) => refuse_setup(rt, catalogue, gauge, given, &fault),
+        },
+        Target::TarOutput => match set_up_tar_output(rt, catalogue, given) {
+            Ok(setup) => restore_onto(threads, watch, given, setup, outputs),
+            Err(fault) => refuse_setup(rt, catalogue, gauge, given, &fault),
+        },
     }
 }

@@ -1,7 +1,9 @@
 //! A reader that answers `help`, `dir` and some slips itself.
+ghost use Rattle.std.specs.Prelude.{◌≤◌, length};
 
 use crate::help_text::HELP;
 use crate::local_command::{LocalCommand, asked_of, without_feed};
+use crate::shown_names::{shown_text, typed};
 use crate::working_folder::ConsoleFolder;
 use br_choose::ChooseFault;
 use br_cli_common::is_attended;
@@ -19,8 +21,8 @@ enum Way<'j> {
 }
 
 /// A reader of the lines of a console session. If an operator attends, it takes out the lines
-/// `help` and `dir`, empty ones and those of other programs, and answers them on standard error. A
-/// terminal gives one line to each read.
+/// `help` and `dir`, empty ones and those of other programs, and answers them on standard error; in
+/// others it replaces escapes by the bytes that they stand for. A terminal gives one line to each read.
 #[derive(Drop)]
 pub struct Helped<'a, 'j, 'r, I> {
     rt: &'r HostRuntime,
@@ -85,12 +87,18 @@ impl<'j, I: Read> Helped<'_, 'j, '_, I> {
         }
     }
 
+    /// Prints names, those that are UTF-8 as they are.
+    fn show(&self, names: &[u8]) -> io::Result<()> {
+        let text = shown_text(self.rt.alloc(), names)?;
+        self.rt.stderr().write_all(&text)
+    }
+
     /// Answers a line if it is one for the terminal. Returns false if the line is for the console.
     fn answer(&mut self, line: &[u8]) -> io::Result<bool> {
         match asked_of(line) {
             LocalCommand::Help => self.rt.stderr().write_all(HELP)?,
             LocalCommand::Dir => match self.list() {
-                Ok(text) => self.rt.stderr().write_all(&text)?,
+                Ok(text) => self.show(&text)?,
                 Err(fault) => eprintln!(self.rt; "dir: {fault}")?,
             },
             LocalCommand::Nothing => {}
@@ -111,6 +119,28 @@ impl<'j, I: Read> Helped<'_, 'j, '_, I> {
         Ok(true)
     }
 
+    /// Replaces the escapes of a line that was typed by the bytes that they stand for. Returns the
+    /// length of the line then.
+    fn read_escapes(&self, buf: &mut [u8], len: usize) -> usize
+        requires { len ≤ length buf.old }
+        ensures { result ≤ length buf.new }
+    {
+        let line = buf.get(..len).unwrap_or(&[]);
+        if !self.is_at_start {
+            return len;
+        }
+        let Some(bytes) = typed(self.rt.alloc(), line) else {
+            return len;
+        };
+        match buf.get_mut(..bytes.len()) {
+            Some(place) => {
+                place.copy_from_slice(&bytes);
+                bytes.len()
+            }
+            None => len,
+        }
+    }
+
     /// Takes what was read. Returns true if it was a line that is answered here.
     fn take(&mut self, text: &[u8]) -> io::Result<bool> {
         if !self.is_at_start {
@@ -127,8 +157,11 @@ impl<I: Read> Read for Helped<'_, '_, '_, I> {
     fn read(&mut self, buf: &mut [u8]) -> io::Result<usize> {
         for _ in 0..u64::MAX {
             let len = self.input.read(buf)?;
-            let text = buf.get(..len).unwrap_or(&[]);
-            if len == 0 || !self.is_attended || !self.take(text)? {
+            if len == 0 || !self.is_attended {
+                return Ok(len);
+            }
+            let len = self.read_escapes(buf, len);
+            if !self.take(buf.get(..len).unwrap_or(&[]))? {
                 return Ok(len);
             }
         }

@@ -4,6 +4,8 @@
 //! and moment. A reader around that of the console takes these lines out and answers them on
 //! standard error. So the console sees none of them, and standard output has nothing of them.
 //!
+//! Patterns may mark the paths in the place of the lines of a session.
+//!
 //! `jobs` lists the jobs of a catalogue, and marks those that `console` would choose. The caller
 //! provides the jobs of a catalogue, as a `Catalogue` of br_keeper.
 #![tactic(auto)]
@@ -16,7 +18,9 @@ mod helped_reader;
 mod jobs_command;
 mod loaded_jobs;
 mod local_command;
+mod pattern_marks;
 mod session_manifest;
+mod shown_names;
 mod time_zone;
 mod working_folder;
 

@@ -1,18 +1,18 @@
-//! The manifest of a session, if it goes to a file of its own.
-ghost use Rattle.std.specs.Prelude.{◌≡◌, ◌⊎◌, IfOk, IfSome, OnOk};
+//! The manifest of a session, which may go to a file of its own, and what the session runs on.
+ghost use Rattle.std.specs.Prelude.{◌≡◌, ◌⊎◌, None, IfOk, IfSome, OnOk};
 ghost use Rattle.br_pool.specs.Pool.{AreDrives};
-ghost use Rattle.br_cli_console.specs.ConsoleTasks.{RunsBy, session};
+ghost use Rattle.br_cli_console.specs.ConsoleTasks.{FinishesBy, RunsBy, RunsOn, session};
 
 use br_cli_progress::{Gauge, WatchedWriter};
-use br_cli_target::{ToldOutcomes, log_fault, refuse_log};
-use br_console::{ConsoleFault, ConsoleRun, finish, prepare, run_console};
+use br_cli_target::{ToldOutcomes, end_manifest, open_manifest};
+use br_console::{ConsoleFault, ConsoleRun, LineVerdict, finish, prepare, run_console};
 use br_engine::{Flush, Restore};
-use br_plan::JobSelection;
+use br_plan::{JobSelection, Plan};
 use br_sink::Sink;
 use br_types::Wanted;
 use br_volume::Drive;
-use std::fs::{File, OpenOptions};
-use std::io::{self, BufRead, BufWriter, ErrorKind};
+use std::fs::File;
+use std::io::{self, BufRead, BufWriter};
 use std::sync::Wait;
 use std::thread::Threads;
 
@@ -21,16 +21,14 @@ pub(crate) type ManifestFile<'g, 'r> = WatchedWriter<'g, 'r, BufWriter<File>>;
 
 /// Opens the file for a manifest, if one is given. What is in it is removed.
 pub(crate) fn manifest_at(rt: &HostRuntime, path: Option<&str>) -> io::Result<Option<File>> {
-    let Some(path) = path else {
-        return Ok(None);
-    };
-    let mut how = OpenOptions::new();
-    how.write(true).create(true).truncate(true);
-    Ok(Some(how.open(rt, path)?))
+    match path {
+        Some(path) => Ok(Some(open_manifest(rt, path)?)),
+        None => Ok(None),
+    }
 }
 
 /// Returns the writer of a manifest's file, if there is one.
-pub(crate) fn manifest_writer<'g, 'r>(
+fn manifest_writer<'g, 'r>(
     rt: &HostRuntime,
     gauge: &'g Gauge<'r>,
     file: Option<File>,
@@ -52,18 +50,39 @@ pub(crate) struct Outputs<W, M> {
     pub(crate) manifest: Option<M>,
 }
 
-/// Runs a session. The manifest goes to its own writer if there is one, else after the bootstrap.
+/// Returns these outputs, which are watched.
+pub(crate) fn watched_outputs<'g, 'r, W: Drop>(
+    rt: &HostRuntime,
+    gauge: &'g Gauge<'r>,
+    outputs: Outputs<W, File>,
+) -> io::Result<Outputs<WatchedWriter<'g, 'r, W>, ManifestFile<'g, 'r>>>
+    ensures answers { IfOk result (λ out. out.answers.inner ≡ outputs.answers) }
+{
+    let manifest = manifest_writer(rt, gauge, outputs.manifest)?;
+    let answers = WatchedWriter::new(outputs.answers, gauge);
+    Ok(Outputs { answers, manifest })
+}
+
+/// What comes of the part of a session before a drive is used: whether each line was accepted, and the
+/// plan if there is one.
+pub(crate) type Prepared = Result<(LineVerdict, Option<Plan>), ConsoleFault>;
+
+/// What a session runs on.
+#[derive(Drop)]
+pub(crate) enum SessionInput<R> {
+    /// The lines that mark paths.
+    Lines(R),
+    /// What comes before a drive is used was prepared without lines.
+    Prepared(Prepared),
+}
+
+/// Runs a session by its lines. The manifest goes to its own writer if there is one, else after the
+/// bootstrap.
 ///
 /// # Errors
 ///
 /// Those of `run_console`.
-pub(crate) fn run_session<
-    R: BufRead + Drop,
-    D: Drive + Send,
-    W: Flush + Drop,
-    M: Flush + Drop,
-    S: Sink,
->(
+fn run_lines<R: BufRead + Drop, D: Drive + Send, W: Flush + Drop, M: Flush + Drop, S: Sink>(
     threads: &(impl Threads + Wait + Sync),
     restore: &mut Restore<D, S>,
     order: (&JobSelection<'_>, Wanted),
@@ -88,6 +107,65 @@ pub(crate) fn run_session<
     }
 }
 
+/// Runs the rest of a session that was prepared. The manifest goes to its own writer if there is one,
+/// else to that of the answers.
+///
+/// # Errors
+///
+/// The error of what was prepared, or those of `restore_plan`.
+fn run_prepared<D: Drive + Send, W: Flush + Drop, M: Flush + Drop, S: Sink>(
+    threads: &(impl Threads + Wait + Sync),
+    restore: &mut Restore<D, S>,
+    prepared: Prepared,
+    wanted: Wanted,
+    out: &mut Outputs<W, M>,
+) -> Result<ConsoleRun, ConsoleFault>
+    requires drives { AreDrives restore.old.drives.items }
+    requires shown { W.is_flushed out.old.answers }
+    requires fresh { IfSome out.old.manifest M.is_flushed }
+    ensures finishes { FinishesBy wanted
+        (session D.Drive W.Write M.Write S.Sink (restore.old, out.old) (restore.new, out.new)) prepared result }
+    ensures flushed { OnOk result (W.is_flushed out.new.answers) }
+    ensures apart { OnOk result (IfSome out.new.manifest M.is_flushed) }
+{
+    match &mut out.manifest {
+        Some(manifest) => finish(threads, restore, prepared, wanted, manifest),
+        None => finish(threads, restore, prepared, wanted, &mut out.answers),
+    }
+}
+
+/// Runs a session by its lines, or the rest of one that was prepared.
+///
+/// # Errors
+///
+/// Those of `run_console`.
+pub(crate) fn run_session<
+    R: BufRead + Drop,
+    D: Drive + Send,
+    W: Flush + Drop,
+    M: Flush + Drop,
+    S: Sink,
+>(
+    threads: &(impl Threads + Wait + Sync),
+    restore: &mut Restore<D, S>,
+    order: (&JobSelection<'_>, Wanted),
+    input: SessionInput<R>,
+    out: &mut Outputs<W, M>,
+) -> Result<ConsoleRun, ConsoleFault>
+    requires drives { AreDrives restore.old.drives.items }
+    requires shown { W.is_flushed out.old.answers }
+    requires fresh { IfSome out.old.manifest M.is_flushed }
+    ensures session { RunsOn R.remaining order.entry input
+        (session D.Drive W.Write M.Write S.Sink (restore.old, out.old) (restore.new, out.new)) result }
+    ensures flushed { OnOk result (W.is_flushed out.new.answers) }
+    ensures apart { OnOk result (IfSome out.new.manifest M.is_flushed) }
+{
+    match input {
+        SessionInput::Lines(mut reader) => run_lines(threads, restore, order, &mut reader, out),
+        SessionInput::Prepared(prepared) => run_prepared(threads, restore, prepared, order.1, out),
+    }
+}
+
 /// Returns what watched writers noted of a session.
 pub(crate) fn told_by<'t, W, M>(
     out: &'t Outputs<WatchedWriter<'_, '_, W>, WatchedWriter<'_, '_, M>>,
@@ -98,46 +176,24 @@ pub(crate) fn told_by<'t, W, M>(
     }
 }
 
-/// Makes what was written to a file durable, if there is one. One that is no regular file, such as a
-/// pipe, has nothing to sync.
-fn sync_manifest(manifest: &mut Option<ManifestFile<'_, '_>>) -> io::Result<()> {
-    let Some(manifest) = manifest else {
-        return Ok(());
-    };
-    match manifest.inner.get_mut().sync_data() {
-        Err(error) if error.kind() != ErrorKind::InvalidInput => Err(error),
-        _ => Ok(()),
-    }
-}
-
-/// Makes the manifest in the file with this path durable, if there is one. If that fails, prints why to
-/// standard error and appends it to the log. Returns the exit status of a command that ends with this
-/// one otherwise.
-pub(crate) fn end_manifest(
+/// Makes the manifest in the file with this path durable, if there is one. Returns the exit status of a
+/// command that ends with this one otherwise.
+///
+/// # Errors
+///
+/// If memory ran out or standard error failed.
+pub(crate) fn end_file(
     rt: &HostRuntime,
     gauge: &Gauge<'_>,
     path: Option<&str>,
     manifest: &mut Option<ManifestFile<'_, '_>>,
     status: u8,
 ) -> io::Result<u8>
-    ensures { IfOk result (λ ended. (ended ≡ status) ⊎ (ended ≡ 3)) }
+    ensures ended { IfOk result (λ ended. (ended ≡ status) ⊎ (ended ≡ 3)) }
+    ensures kept { path.entry ≡ None → IfOk result (λ ended. ended ≡ status) }
 {
-    match sync_manifest(manifest) {
-        Ok(()) => Ok(status),
-        Err(error) => refuse_manifest(rt, gauge, path, error),
+    match manifest {
+        Some(manifest) => end_manifest(rt, gauge, path, manifest.inner.get_mut(), status),
+        None => Ok(status),
     }
-}
-
-/// Prints to standard error that the file of a manifest failed, and appends it to the log. Returns the
-/// exit status. If memory ran out, returns the error.
-pub(crate) fn refuse_manifest(
-    rt: &HostRuntime,
-    gauge: &Gauge<'_>,
-    path: Option<&str>,
-    error: io::Error,
-) -> io::Result<u8>
-    ensures { IfOk result (λ status. status ≡ 3) }
-{
-    log_fault(rt, gauge, path, &error)?;
-    refuse_log(rt, path, error)
 }

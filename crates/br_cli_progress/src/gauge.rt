@@ -24,6 +24,8 @@ pub struct Gauge<'r> {
     pub(crate) rt: &'r HostRuntime,
     /// True if standard error is a terminal.
     is_terminal: bool,
+    /// True if words and the end of the count are shown wherever standard error goes.
+    says_all: bool,
     /// The log, if there is one.
     pub(crate) log: Option<Log>,
     /// The path of the folder with the volumes.
@@ -81,6 +83,7 @@ impl<'r> Gauge<'r> {
         Gauge {
             rt,
             is_terminal: rt.stderr().is_terminal(),
+            says_all: false,
             log: None,
             volumes,
             is_folder: matches!(target, Target::Folder(_)),
@@ -110,6 +113,15 @@ impl<'r> Gauge<'r> {
         Gauge { log, ..self }
     }
 
+    /// Returns the gauge, which shows words and the end of the count wherever standard error goes, or
+    /// to a terminal alone.
+    pub fn with_words(self, says_all: bool) -> Gauge<'r>
+        ensures words { result.says_all ≡ says_all }
+        ensures unlogged { HasNoLog self.entry → HasNoLog result }
+    {
+        Gauge { says_all, ..self }
+    }
+
     /// Returns the allocator.
     pub(crate) fn alloc(&self) -> Global {
         self.rt.alloc()
@@ -117,7 +129,17 @@ impl<'r> Gauge<'r> {
 
     /// Returns true if the gauge has something to show or to report.
     pub fn is_watching(&self) -> bool {
-        self.is_terminal || self.is_shown() || self.log.is_some()
+        self.has_words() || self.is_shown() || self.log.is_some()
+    }
+
+    /// Returns true if words are shown on standard error.
+    fn has_words(&self) -> bool {
+        self.is_terminal || self.says_all
+    }
+
+    /// Returns true if the count of the files is shown at the end, also if each was put.
+    pub(crate) fn says_count(&self) -> bool {
+        self.is_shown() || self.says_all
     }
 
     /// Returns true if the gauge shows the progress.
@@ -206,10 +228,10 @@ impl<'r> Gauge<'r> {
         }
     }
 
-    /// Prints a text to standard error if that is a terminal, and not the log, which gets the text
-    /// too.
+    /// Prints a text to standard error if words are shown there. If the log goes there, the text is
+    /// for the log.
     pub(crate) fn show(&self, text: &[u8]) -> io::Result<()> {
-        if !self.is_terminal || self.logs_to_error() {
+        if !self.has_words() || self.logs_to_error() {
             return Ok(());
         }
         self.clear();

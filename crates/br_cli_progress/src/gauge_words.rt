@@ -118,9 +118,9 @@ impl<'r> Gauge<'r> {
         self.tell_lines(ended(self.alloc(), line.as_bytes())?)
     }
 
-    /// Returns the line with the number of files that were put, if some were to be put and a
-    /// terminal is to show it. A terminal without progress shows it only if a file was neither put
-    /// nor skipped, nor left out as an older copy.
+    /// Returns the line with the number of files that were put, if some were to be put, and whether
+    /// it is shown. Without progress or words for all a terminal shows it only if a file was neither
+    /// put nor skipped, nor left out as an older copy.
     fn count_text(&self) -> Result<(Vec<u8>, bool), AllocError> {
         let mut text = Vec::new(self.alloc());
         let Some(count) = self.count() else {
@@ -131,7 +131,7 @@ impl<'r> Gauge<'r> {
             .put
             .saturating_add(count.older)
             .saturating_add(count.skipped);
-        Ok((text, self.is_shown() || done < count.files))
+        Ok((text, self.says_count() || done < count.files))
     }
 
     /// Reports the outcomes that are no files in words, to a terminal and the log.

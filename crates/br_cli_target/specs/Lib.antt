@@ -9,3 +9,4 @@ pub mod AttributePaths
 pub mod Origins
 pub mod Nothing
 pub mod WholeRestore
+pub mod TextPlaces

@@ -1,5 +1,5 @@
 //! The targets of the commands, and their reports: a folder or a tar stream, the gauge that watches
-//! a restore, the words at a terminal and in a log, and the exit status.
+//! a restore, the words at a terminal and in a log, where manifest and answers go, and the exit status.
 //! For outcomes that are no files, `origins` finds the volume and the paths in the attributes. A
 //! terminal is told what a restore does not report without its options: copies of paths that are
 //! older than others, indexes without an outcome, and why volumes can't be read.
@@ -18,6 +18,7 @@ mod searched_hits;
 mod settling;
 mod target_folder;
 mod target_tar;
+mod text_output;
 mod told_outcomes;
 mod told_target;
 mod watched_restore;
@@ -33,6 +34,7 @@ pub use target_folder::{LeavingSink, ResumingSink, folder_of, leaving_over, resu
 pub use target_tar::{
     PutExtent, Streamed, TarEnd, TarFault, add_tar_end, end_stream, tar_into, tar_onto, tar_output,
 };
+pub use text_output::{TextOutput, end_manifest, open_manifest, refuse_manifest};
 pub use told_outcomes::{ToldOutcomes, advise, say_volumes, tell_outcomes};
 pub use told_target::{
     lacks_volumes, log_fault, refuse_place, say_conflicts, say_files, say_nowhere, say_place,

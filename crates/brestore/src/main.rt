@@ -1,6 +1,7 @@
 //! The restoring half of a Bacula Director, with the volume reading that a restore needs.
 //!
-//! `extract` runs a bootstrap over the volumes of a folder. `console` lets the operator mark files
+//! `restore` brings back all that it can, by a bootstrap or by patterns over a catalogue. `extract` runs
+//! a bootstrap over the volumes of a folder. `console` lets the operator mark files
 //! as they were at a moment, and restores them. Both write the restored files into another folder,
 //! if one is given. `jobs` lists the jobs of a catalogue. `explain` prints what a refusal number
 //! means. `migrate` changes a catalogue of version 1 to version 2. `serve` runs a script from
@@ -17,6 +18,7 @@ use crate::command::run_command;
 use br_catalog_files::CatalogueFiles;
 use br_cli_args::read_words;
 use br_cli_common::{BAD_COMMAND, BAD_STREAM, CLEAN, REFUSED, tell_refusal};
+use std::fs::File;
 use std::io::{self, ErrorKind};
 use std::process::ExitCode;
 use std::rt::Env;
@@ -55,9 +57,20 @@ fn run(rt: &HostRuntime, threads: &(impl Threads + Wait + Sync)) -> io::Result<u
     }
 }
 
+/// Takes the place of each standard stream that is closed. Else a file of the program would get it, and
+/// with it what is printed. A folder is neither read nor written, so the stream still fails.
+fn hold_streams(rt: &HostRuntime) -> [Option<File>; 3] {
+    [
+        File::open(rt, "/").ok(),
+        File::open(rt, "/").ok(),
+        File::open(rt, "/").ok(),
+    ]
+}
+
 /// Runs the program. The exit status is 0 if nothing was refused and every outcome is a file, else
 /// 1; 2 for a fault of the command line, 3 if the program's own files or streams failed.
 fn main(rt: HostRuntime) -> ExitCode {
+    let _held = hold_streams(&rt);
     match run(&rt, &rt) {
         Ok(status) => ExitCode::from(status),
         Err(e) if e.kind() == ErrorKind::OutOfMemory => {

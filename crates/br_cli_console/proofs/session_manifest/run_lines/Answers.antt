@@ -1,6 +1,6 @@
 use Rattle.std.proofs.lemmas.Result.{on_ok_weaker}
 use Rattle.br_cli_console.proofs.SessionLaws.{stays_shown}
-use Rattle.br_cli_console.proofs.session_manifest.run_session.Goals as goal
+use Rattle.br_cli_console.proofs.session_manifest.run_lines.Goals as goal
 
 -- ---- the manifest has a writer of its own
 
