@@ -21,7 +21,7 @@ line. So a row that comes before the sync of a volume, and a name that is not sy
 
 `deliveries` has restores run to their end, and then drops all that was not synced: `extract` and `console` with `--sync --into` leave each
 file and folder of the manifest, and without `--sync` nothing is synced there; `extract --tar FILE` leaves each entry and the end of the
-stream, `--log FILE` each line, and `console --manifest FILE` the manifest, if the names of these files are there. Then
+stream, `--log FILE` each line, and `--manifest FILE` of `console` and `restore` the manifest, if the names of these files are there. Then
 `extract --sync --into` is cut at drawn calls: each file of a line `put` in the log is whole, and `--resume` makes the folder whole. It is
 also killed at these calls, and goes on by `--resume` without a loss: then a loss of all that was not synced in both runs leaves the whole
 folder.
@@ -374,6 +374,11 @@ def check_into(rows, given, name, words, into, text, expected, tree):
         into.mkdir()
 
 
+def put_all(count):
+    """Returns the line of `restore` after it put this number of files."""
+    return b"%d of %d files were put\n" % (count, count)
+
+
 def check_console(rows, given, folder):
     """Restores by a session from a catalogue that the program made of a script."""
     lines = job_lines(1, b"A", b"B")
@@ -390,6 +395,11 @@ def check_console(rows, given, folder):
     found, calls = recorded(given, [*words, "--manifest", manifest], str(folder), text=ALL)
     rows.check("console --manifest", found, (status, printed[:end], told))
     rows.check("console --manifest, what is left", synced_alone(calls, manifest), printed[end:])
+    count, manifest = printed[end:].count(b"\nF ") + 1, folder / "y.manifest"
+    more = ["--into", folder / "into", "--manifest", manifest]
+    found, calls = recorded(given, ["restore", *words[1:], *more], str(folder))
+    rows.check("restore --db --manifest", found, (status, b"", told + put_all(count)))
+    rows.check("restore --db --manifest, what is left", synced_alone(calls, manifest), printed[end:])
 
 
 def entries_of(stream):
@@ -403,9 +413,9 @@ def entries_of(stream):
 
 
 def check_files(rows, given, folder, manifest):
-    """Restores into a tar stream and with a log, of which the bytes that were synced are compared."""
+    """Restores into a tar stream, with a log and with a manifest, of which the bytes that were synced are compared."""
     entries = {file[1].strip(b"/"): content(file[8] if file[0] == 3 else None) for file in FILES}
-    stream, log, into = folder / "x.tar", folder / "x.log", folder / "into"
+    stream, log, into, file = folder / "x.tar", folder / "x.log", folder / "into", folder / "x.manifest"
     found, calls = recorded(given, extract_words(folder, "--tar", stream), str(folder))
     rows.check("extract --tar", found, (0, manifest, b""))
     tree, is_ended = entries_of(synced_alone(calls, stream) or b"")
@@ -416,6 +426,10 @@ def check_files(rows, given, folder, manifest):
     told = [*(b"put %s" % path.encode() for path in PATHS), b"%d of %d files were put" % (len(FILES), len(FILES))]
     rows.check("extract --log, the lines that are left", (synced_alone(calls, log) or b"").splitlines(), told)
     rows.check("extract --log, what is synced below the folder", syncs_below(calls, into), [])
+    more = ["--into", into, "--manifest", file]
+    found, calls = recorded(given, ["restore", *extract_words(folder)[1:], *more], str(folder))
+    rows.check("restore --bsr --manifest", found, (0, b"", put_all(len(FILES))))
+    rows.check("restore --bsr --manifest, what is left", synced_alone(calls, file), manifest)
 
 
 def put_paths(log):

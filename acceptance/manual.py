@@ -25,19 +25,29 @@ from common import PROGRAM
 
 PAGE = os.path.join(ROOT, "share/man/man1/brestore.1")
 COMPLETIONS = os.path.join(ROOT, "share/bash-completion/completions/brestore")
-COMMANDS = ["check", "console", "explain", "extract", "jobs", "migrate", "serve"]
+COMMANDS = ["check", "console", "explain", "extract", "jobs", "migrate", "restore", "serve"]
+RESTORE = ["--before", "--bsr", "--client", "--db", "--drives", "--fileset", "--help", "--into", "--log", "--manifest", "--memory", "--quiet"]
+RESTORE += ["--sync", "--tar", "--volumes"]
 # The folder in which lines are completed has a file and a folder.
 FILE, FOLDER = "jobs of mars.db", "volumes"
 # A line whose last word is completed, and the words that fit.
 LINES = [
     ("brestore ex", ["explain", "extract"]),
     ("brestore ch", ["check"]),
+    ("brestore re", ["restore"]),
     ("brestore ", ["--help", "--version", *COMMANDS]),
     ("brestore extract --n", ["--newest"]),
     ("brestore extract --bsr ", [FILE, FOLDER]),
     ("brestore extract --bsr x --volumes ", [FOLDER]),
     ("brestore extract --bsr x --volumes v --in", ["--into"]),
     ("brestore console --db j", [FILE]),
+    ("brestore restore --", RESTORE),
+    ("brestore restore --m", ["--manifest", "--memory"]),
+    ("brestore restore --bsr x --volumes v --in", ["--into"]),
+    ("brestore restore --into ", [FOLDER]),
+    ("brestore restore --db ", [FILE, FOLDER]),
+    ("brestore restore --manifest j", [FILE]),
+    ("brestore restore --before ", []),
     ("brestore check --", ["--bsr", "--checksums", "--help", "--memory", "--volumes"]),
     ("brestore check --bsr ", [FILE, FOLDER]),
     ("brestore check --volumes ", [FOLDER]),

@@ -64,8 +64,10 @@ def try_program(checks, name, root):
     shutil.copytree(os.path.join(SETS, "order"), f"{root}/sample/volumes")
     shutil.copy(os.path.join(CASE, "x.bsr"), f"{root}/sample")
     os.mkdir(f"{root}/sample/restored")
-    words = ["--bsr", "/sample/x.bsr", "--volumes", "/sample/volumes", "--into", "/sample/restored"]
-    checks.check(f"{name}: the sample", within(root, "brestore", "extract", *words), (0, content("expected"), content("stderr")))
+    words = ["--bsr", "/sample/x.bsr", "--volumes", "/sample/volumes", "--into", "/sample/restored", "--manifest", "/sample/manifest"]
+    checks.check(f"{name}: the sample", within(root, "brestore", "restore", *words), (0, b"", b"5 of 5 files were put\n"))
+    with open(f"{root}/sample/manifest", "rb") as file:
+        checks.check(f"{name}: its manifest", file.read(), content("expected"))
     checks.check(f"{name}: its files", tree_of(f"{root}/sample/restored"), delivery(content("expected"))[0])
 
 

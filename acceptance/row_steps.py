@@ -25,7 +25,7 @@ ERRORS = {"pipe": errno.EPIPE, "memory": errno.ENOMEM}
 SECONDS = 60
 # The message for each kind of fault of a command line, by clap and by the program itself.
 KINDS = (
-    (r"error: the following required arguments were not provided|.* must be given (together|with '.*)$", "MissingRequiredArgument"),
+    (r"error: the following required arguments were not provided|.* must be given( together| with '.*)?$", "MissingRequiredArgument"),
     (r"error: unexpected argument ", "UnknownArgument"),
     (r"error: a value is required for ", "InvalidValue"),
     (r"error: invalid value |error: the value of '.*' is no ", "ValueValidation"),

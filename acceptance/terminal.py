@@ -404,6 +404,33 @@ def looks(checks, folder):
     checks.check("findings", (status, shown, printed[:21]), (1, [], "volume 14 Vol-0001 0\n"))
 
 
+# A name in UTF-8, one with a blank, a character that turns the direction of a line, and a byte that is no UTF-8.
+NAMES = {6: "4dc3a4727a", 7: "612062", 8: "e280ae", 9: "ff"}
+
+
+def names(checks, folder):
+    """Names that are no ASCII: a terminal shows those that are UTF-8 as they are, and takes them so and escaped. A pipe gets them escaped."""
+    db, place = os.path.join(folder, "names.db"), os.path.join(folder, "names")
+    os.mkdir(place)
+    rows = [f"INSERT INTO File SELECT {it} + 10, {it}, 1, 1, x'{name}', LStat, MD5 FROM File WHERE FileId = 1;" for it, name in NAMES.items()]
+    more = "UPDATE JobMedia SET LastIndex = 9 WHERE JobId = 1;" + "".join(rows)
+    subprocess.run(["sqlite3", db], input=Path(ORDER_SQL).read_text() + more, text=True, check=True)
+    lines = ["cd /tmp/peerlab/src/sub", "ls", r"mark M\xc3\xa4rz", "unmark März", r"mark a\x20b", r"mark \xe2\x80\xae", "find M*", "ls", "dir", "quit"]
+    listed = [" März", r" a\x20b", " f1", " f2", " f3", r" \xe2\x80\xae", r" \xff"]
+    marked = [" März", r"*a\x20b", " f1", " f2", " f3", r"*\xe2\x80\xae", r" \xff"]
+    answers = ["cwd is: /tmp/peerlab/src/sub/", *listed, "1 marked", "1 unmarked", "1 marked", "1 marked", " /tmp/peerlab/src/sub/März", *marked]
+    status, shown, _ = play(checks.program, console_words(db, place), typed(*lines), folder, prints=True)
+    shown = [line.removeprefix(PROMPT) for line in shown]
+    start = shown.index(answers[0])
+    checks.check("names at a terminal", (status, shown[start : start + len(answers)]), (0, answers))
+    checks.check("names of `dir`", [line.split(" ")[-1] for line in shown[start + len(answers) :]][:7], [line[1:] for line in listed])
+    plain = [line for line in lines if line != "dir" and "\\" not in line]
+    found = subprocess.run([checks.program, *console_words(db, place)], input="".join(f"{line}\n" for line in plain), capture_output=True, text=True)
+    escaped_names = [line.replace("ä", r"\xc3\xa4") for line in listed]
+    expected = [answers[0], *escaped_names, "0 unmarked", r" /tmp/peerlab/src/sub/M\xc3\xa4rz", *escaped_names]
+    checks.check("names in a pipe", (found.returncode, found.stdout.splitlines()), (0, expected))
+
+
 def streams(checks, folder):
     """Streams to a terminal, which are refused before a line is read."""
     db = os.path.join(folder, "streamed.db")
@@ -478,7 +505,7 @@ def main():
     checks = Checks(os.path.abspath(options.program))
     folder = tempfile.mkdtemp(prefix="brestore-terminal-")
     try:
-        for plays in (restores, asks_again, extracts, tells, tells_a_session, tells_bytes, tells_a_check, leaves_unsaid, looks, streams, lists, says_rows, waits):
+        for plays in (restores, asks_again, extracts, tells, tells_a_session, tells_bytes, tells_a_check, leaves_unsaid, looks, names, streams, lists, says_rows, waits):
             plays(checks, folder)
     finally:
         shutil.rmtree(folder)

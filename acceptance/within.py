@@ -1,7 +1,7 @@
 #!/usr/bin/env python3
 """Runs other scripts of this folder over a program that holds few of the files' bytes, and reads the rest again from the volumes.
 
-Each script gets a shell script in place of the program. That adds `--memory SIZE` to the commands `extract`, `console` and
+Each script gets a shell script in place of the program. That adds `--memory SIZE` to the commands `restore`, `extract`, `console` and
 `serve`, unless they are called with a size, and hands on all else. What the scripts compare must be as it is without.
 
     acceptance/within.py 0                         all of those below
@@ -23,8 +23,8 @@ HERE = os.path.dirname(os.path.abspath(__file__))
 sys.path.insert(0, os.path.join(os.path.dirname(HERE), "tools"))
 from common import PROGRAM
 
-# The scripts that restore, and have no runs with `--memory` of their own.
-SCRIPTS = ("catalogue.py", "commands.py", "hostile.py", "leaving.py", "serving.py", "stops.py", "tarred.py", "terminal.py")
+# The scripts that restore, and have few runs with `--memory` of their own, or none.
+SCRIPTS = ("catalogue.py", "commands.py", "hostile.py", "leaving.py", "restoring.py", "serving.py", "stops.py", "tarred.py", "terminal.py")
 # These take the program without `--program`.
 PLAIN = ("tarred.py",)
 WRAPPER = """#!/bin/sh
@@ -32,7 +32,7 @@ for word; do
     case "$word" in --memory | --memory=*) exec {program} "$@" ;; esac
 done
 case "$1" in
-extract | console | serve)
+restore | extract | console | serve)
     command=$1
     shift
     exec {program} "$command" --memory {size} "$@"
