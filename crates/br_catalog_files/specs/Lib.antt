@@ -1,1 +1,2 @@
 pub mod FileCatalogue
+pub mod Migrating

@@ -7,44 +7,19 @@ ghost use Rattle.sqlite.specs.Steps.{IsFresh};
 ghost use Rattle.sqlite_store.specs.FileStore.{view};
 ghost use Rattle.sqlite_trees.specs.View.{IsClean};
 ghost use Rattle.br_catalog_files.specs.FileCatalogue.{IsClosed, IsOpened, LoadsNeeded, OfFoundRows, SaysWrong, wrong_line};
-ghost use Rattle.br_catalog_rows.specs.Fault.{fault_number};
 ghost use Rattle.br_catalog_rows.specs.Load.{read_history};
 ghost use Rattle.br_store.specs.Calls.{IsJustOpened, WhileClean};
-ghost use Rattle.br_store.specs.Look.{look_number};
 ghost use Rattle.br_store.specs.Made.{Finds};
-ghost use Rattle.br_keeper.specs.Catalogue.{catalogue_number};
 
+use crate::fault::{catalogue_fault, look_fault};
+use crate::migration::{Stores, migrate_at};
 use br_catalog_rows::{WrongRows, push_wrong};
 use br_history::{History, Needs};
 use br_keeper::{Catalogue, CatalogueFault};
-use br_store::{HostSight, LookFault, Store, StoreFault, StoredJobs, fold, look};
+use br_store::{HostSight, Store, StoreFault, StoredJobs, fold, look};
 use sqlite::{Alter, Connection, File, FileStore};
-use sqlite_disk::Memory;
+use sqlite_disk::{Disk, Memory};
 use std::alloc::{AllocError, Global};
-
-/// Returns the fault of looking at a catalogue's file, as a fault of a catalogue.
-fn look_fault(fault: LookFault) -> CatalogueFault
-    ensures { catalogue_number result ≡ look_number fault }
-{
-    match fault {
-        LookFault::Memory => CatalogueFault::Memory,
-        LookFault::InUse | LookFault::Unreadable | LookFault::Database(_) => {
-            CatalogueFault::Unreadable
-        }
-    }
-}
-
-/// Returns the fault of a catalogue's file as one of a catalogue.
-fn catalogue_fault(fault: StoreFault) -> CatalogueFault
-    ensures { catalogue_number result ≡ fault_number fault }
-{
-    match fault {
-        StoreFault::Memory => CatalogueFault::Memory,
-        StoreFault::Store(_) => CatalogueFault::Unreadable,
-        StoreFault::BadCatalogue => CatalogueFault::BadCatalogue,
-        StoreFault::OldCatalogue => CatalogueFault::OldCatalogue,
-    }
-}
 
 /// Opens the catalogue in a database, with all that was committed to it. In a database with no
 /// table it makes a catalogue without jobs.
@@ -205,27 +180,6 @@ fn open_store(rt: &HostRuntime, db: &str) -> Result<FileStore<File>, CatalogueFa
     }
 }
 
-/// Writes all that was committed into the file, and closes it.
-fn end(store: FileStore<File>) -> Result<(), CatalogueFault> {
-    match br_catalog_migrate::fold(store) {
-        Ok(_files) => Ok(()),
-        Err(_error) => Err(CatalogueFault::Unreadable),
-    }
-}
-
-/// Changes the catalogue of version 1 in a file to version 2. Returns the number of its jobs.
-/// Afterwards the file alone is the catalogue, even after a refusal.
-fn migrate(rt: &HostRuntime, db: &str) -> Result<u64, CatalogueFault> {
-    let mut store = open_store(rt, db)?;
-    let migrated = br_catalog_migrate::migrate(rt.alloc(), &mut store);
-    let ended = end(store);
-    match migrated {
-        Ok(jobs) => ended.map(|()| jobs),
-        Err(StoreFault::BadCatalogue) => Err(refusal_of(rt, db)),
-        Err(fault) => Err(catalogue_fault(fault)),
-    }
-}
-
 /// The catalogues in files of SQLite.
 #[derive(Drop)]
 pub struct CatalogueFiles<'r> {
@@ -239,10 +193,25 @@ impl<'r> CatalogueFiles<'r> {
     }
 }
 
+impl Stores<File> for CatalogueFiles<'_> {
+    ghost use Rattle.std.specs.Prelude.{⊤};
+
+    ghost opens = { λ _ _ _ _. ⊤ };
+
+    fn open_store(&self, db: &str) -> Result<FileStore<File>, CatalogueFault> {
+        open_store(self.rt, db)
+    }
+
+    fn refusal_of(&self, db: &str) -> CatalogueFault {
+        refusal_of(self.rt, db)
+    }
+}
+
 impl Catalogue for CatalogueFiles<'_> {
-    ghost use Rattle.std.specs.Prelude.{None};
+    ghost use Rattle.std.specs.Prelude.{None, IfOk};
     ghost use Rattle.sqlite.specs.Files.{over_files};
     ghost use Rattle.br_catalog_files.specs.FileCatalogue.{IsClosed, IsOpened};
+    ghost use Rattle.br_catalog_files.specs.Migrating.{Migrates};
 
     type Jobs = StoredJobs<FileStore<File>>;
 
@@ -275,7 +244,9 @@ impl Catalogue for CatalogueFiles<'_> {
         wrong_rows(self.rt, db)
     }
 
-    fn migrate(&self, db: &str) -> Result<u64, CatalogueFault> {
-        migrate(self.rt, db)
+    fn migrate(&self, db: &str) -> Result<u64, CatalogueFault>
+        ensures migrated { IfOk result (Migrates (⟦<CatalogueFiles<'static> as Stores<File>>⟧.opens ⟦<File as Disk>⟧ self.now db.now)) }
+    {
+        migrate_at(self.rt.alloc(), self, db)
     }
 }

@@ -6,5 +6,7 @@
 #![tactic(auto)]
 
 mod catalogue_files;
+mod fault;
+mod migration;
 
 pub use catalogue_files::CatalogueFiles;

@@ -19,3 +19,4 @@ pub mod WholeLaws
 pub mod RawFolds
 pub mod TreeLaws
 pub mod CatalogLaws
+pub mod FileMigrates

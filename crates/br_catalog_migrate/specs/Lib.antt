@@ -13,3 +13,4 @@ pub mod MigrationSteps
 pub mod WholeMigration
 pub mod RawFolded
 pub mod RawPremises
+pub mod FileMigration

@@ -2,6 +2,7 @@
 //! a database's file without a test of its rows.
 #![tactic(auto)]
 
+mod file_migration;
 mod migrating;
 mod new_tables;
 mod old_digest;
@@ -16,6 +17,7 @@ mod raw_store;
 mod seen_indexes;
 mod tree_cursor;
 
+pub use file_migration::migrate_file;
 pub use migrating::migrate;
 pub use raw_closing::fold;
 pub use raw_files::open;

@@ -1,10 +1,12 @@
 //! The store in the files at a path.
 
-ghost use Rattle.std.specs.Prelude.{IsTrue, IfOk};
+ghost use Rattle.std.specs.Prelude.{IfOk, IsTrue, false, true};
 ghost use Rattle.sqlite.specs.Steps.{IsFresh};
-ghost use Rattle.sqlite_std_file.specs.File.{file_is_usable};
+ghost use Rattle.sqlite_std_file.specs.File.{file_is_usable, IsFresh as IsUntouched};
 ghost use Rattle.sqlite_store.specs.FileStore.{view};
 ghost use Rattle.sqlite_trees.specs.View.{IsClean};
+ghost use Rattle.sqlite_wal.specs.Files.{image_at};
+ghost use Rattle.br_catalog_migrate.specs.FileMigration.{ShowsDatabase};
 
 use crate::raw_store::store_over;
 use sqlite::{Error, ErrorCode, File, FileFrom, FileStore, Files, Options, Start, Unknown};
@@ -25,6 +27,7 @@ const CACHE_PAGES: usize = 100;
 fn open_pair<S: Start>(rt: &HostRuntime, path: &str, start: S) -> Result<Files<FileFrom<S>>, Error>
     ensures log { IfOk result (λ files. IsTrue (file_is_usable S.Start files.log)) }
     ensures db { IfOk result (λ files. IsTrue (file_is_usable S.Start files.db)) }
+    ensures fresh { IfOk result (λ files. IsUntouched true files.log × IsUntouched false files.db) }
 {
     if path == ":memory:" || path.starts_with("file:") {
         return Err(CANNOT_OPEN);
@@ -45,13 +48,15 @@ fn options_of(seed: u64) -> Options {
     options
 }
 
-/// Opens the store in the files at a path, which hold what `start` says.
+/// Opens the store in the files at a path, which hold what `start` says: it shows their database
+/// (`found`). No clause can say what is at the path.
 fn open_from<S: Start>(
     rt: &HostRuntime,
     path: &str,
     start: S,
 ) -> Result<FileStore<FileFrom<S>>, Error>
-    ensures { IfOk result (λ store. IsClean (view store) → IsFresh (view store)) }
+    ensures fresh { IfOk result (λ store. IsClean (view store) → IsFresh (view store)) }
+    ensures found { IfOk result (λ store. IsClean (view store) → ShowsDatabase (image_at S.Start) store) }
 {
     let files = open_pair(rt, path, start)?;
     let random = RandomState::new(rt).map_err(|_| CANNOT_OPEN)?;

@@ -15,6 +15,14 @@ pub returns-in-Ok-clause-usable : goal.returns-in-Ok-clause-usable
 returns-in-Ok-clause-usable g c =
     subst (λ p. IsTrue (g.D.Disk.is_usable p.0)) (sym c.close.ensures) (open_usable c.checkpoint.new.self.pool c.in-Ok.ensures.still).0
 
+pub returns-in-Ok-clause-clean : goal.returns-in-Ok-clause-clean
+returns-in-Ok-clause-clean g c honest =
+    let last = c.checkpoint.new.self in
+    let sure_now = subst (λ p. AreClean g.D.Disk p.0 p.1) c.close.ensures honest in
+    let none : IsClean (view last) = no_doubt _ (clean_is last.pool ∙ sure_now) in
+    let clean : IsClean (view c.rollback.new.self) = omega (arith, c.checkpoint.ensures.quiet.clean) in
+    omega (arith, c.rollback.ensures.quiet.clean)
+
 pub returns-in-Ok-clause-copied : goal.returns-in-Ok-clause-copied
 returns-in-Ok-clause-copied g c honest numbered sound =
     let back = c.args.store in
