@@ -5,7 +5,7 @@
 #     catalogue/import.sh NEW.db --mysql [-h HOST] [-p PORT] [-U USER] DB     by mysql, from MySQL or MariaDB
 #     catalogue/import.sh NEW.db --sqlite FILE                                from a file of SQLite
 #
-# docs/RESTORING.md says how it is used, docs/formats.md what it takes and what it prints. The database is only read.
+# docs/IMPORTING.md says how it is used, docs/formats.md what it takes and what it prints. The database is only read.
 # sqlite.sql, pgsql.sql and mysql.sql read it. stage.sql has the tables for its rows; lines.sql fills them from the lines that the client
 # of a server prints. rules.sql makes the catalogue.
 
