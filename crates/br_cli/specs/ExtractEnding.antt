@@ -1,8 +1,12 @@
 -- The end of a run that extracts files.
-use Rattle.std.specs.Prelude.{ℕ, Bool, true, false, List, ◌++◌, Option, Some, None, Result, Ok, Err, if◌then◌else◌}
+use Rattle.std.specs.Prelude.{ℕ, Bool, true, false, ◌&&◌, ◌||◌, List, ◌++◌, Option, Some, None, Result, Ok, Err, if◌then◌else◌}
 use Rattle.br_check.specs.Findings.{empty_line}
 use Rattle.std.specs.Borrow.{Bor}
 use Rattle.br_model.specs.Bootstrap.{Group}
+use Rattle.br_model.specs.Text.{is_empty}
+use Rattle.br_cli_common.specs.declared.options.ExtractOptions.{ExtractOptions}
+use Rattle.br_cli_common.specs.declared.options.Printed.{Printed}
+use Rattle.br_cli_common.specs.declared.options.Printed.TheVariants.{Manifest, Words}
 use Rattle.br_engine.specs.Fault.{fault_text}
 use Rattle.br_engine.specs.declared.restore_end.RestoreEnd.{RestoreEnd}
 use Rattle.br_engine.specs.declared.restore_end.RestoreEnd.TheVariants.{AllFiles, SomeFaults, Stopped}
@@ -45,6 +49,21 @@ run_status asks_nothing (Err fault) failed = fault_status fault
 abbrev pub asks_in : Gaps → Option (Bor (List Group)) → Bool
 asks_in Reported bootstrap = asks_nothing bootstrap
 asks_in Unreported bootstrap = false
+
+-- whether a run gave no file, and none is reported as missing
+abbrev pub gives_nothing : Result Extracted ExtractFault → Bool
+gives_nothing (Ok done) = is_empty done.outcomes.items && is_empty done.missing.items
+gives_nothing (Err fault) = false
+
+-- the same of `restore` alone, which prints words
+abbrev pub found_none : Printed → Result Extracted ExtractFault → Bool
+found_none Manifest run = false
+found_none (Words file) run = gives_nothing run
+
+-- whether there is nothing to show: nothing was asked for, or `restore` gave no file and none is
+-- missing
+abbrev pub shows_nothing : ExtractOptions → Option (Bor (List Group)) → Result Extracted ExtractFault → Bool
+shows_nothing given bootstrap run = asks_in given.wanted.gaps bootstrap || found_none given.printed run
 
 -- the same with the end of the tar stream, if there is one: 1 if it could not be written
 abbrev pub told_status : Bool → Result Extracted ExtractFault → List (List ℕ) → Option TarEnd → ℕ

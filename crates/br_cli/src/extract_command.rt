@@ -4,7 +4,8 @@ ghost use Rattle.br_cli_common.specs.Options.{AreFew};
 ghost use Rattle.br_pool.specs.Pool.{AreDrives};
 ghost use Rattle.br_volume.specs.HostDrives.{AreOver};
 ghost use Rattle.br_cli_target.specs.AskedTarget.{folder_asked, stream_asked};
-ghost use Rattle.br_cli.specs.ExtractEnding.{asks_in, done_status, extent, run_refusal, run_status, told_status};
+ghost use Rattle.br_cli.specs.ExtractEnding.{asks_in, done_status, extent, gives_nothing, run_refusal, run_status};
+ghost use Rattle.br_cli.specs.ExtractEnding.{shows_nothing, told_status};
 ghost use Rattle.br_cli.specs.ExtractStarting.{start_status};
 ghost use Rattle.br_cli_target.specs.TarEnding.{IsShown};
 ghost use Rattle.br_cli_target.specs.TextPlaces.{manifest_place};
@@ -20,8 +21,9 @@ use br_cli_target::{
     Channel, Ending, LeavingSink, PutExtent, Settle, Streamed, TarEnd, TarFault, TextOutput,
     ToldOutcomes, add_tar_end, advise, end_manifest, end_stream, folder_of, gauge_of, is_whole,
     lacks_volumes, leaving_over, left_out, log_fault, open_manifest, refuse_log, refuse_manifest,
-    refuse_place, restore_over, say_conflicts, say_files, say_nowhere, say_stop, say_volumes,
-    tar_into, tar_output, tell_others, tell_outcomes, with_watched_drives, with_watched_sink,
+    refuse_place, restore_over, say_conflicts, say_files, say_nowhere, say_stop, say_unended,
+    say_volumes, tar_into, tar_output, tell_others, tell_outcomes, with_watched_drives,
+    with_watched_sink,
 };
 use br_engine::{
     ExtractFault, Extracted, Flush, ReadBootstrap, Restore, RestoreEnd, RestoreOrder, read_text,
@@ -88,6 +90,32 @@ fn is_nothing_asked(gaps: Gaps, told: &ToldOutcomes<'_>) -> bool
         Gaps::Reported => told.asks_nothing(),
         Gaps::Unreported => false,
     }
+}
+
+/// Returns true if a run gave no file, and none is reported as missing.
+fn gives_nothing(run: &Result<Extracted, ExtractFault>) -> bool
+    ensures { result ≡ gives_nothing run.now }
+{
+    match run {
+        Ok(done) => done.outcomes.is_empty() && done.missing.is_empty(),
+        Err(_) => false,
+    }
+}
+
+/// Returns true if there is nothing to show: nothing was asked for, or `restore`, which prints words,
+/// gave no file, and none is missing.
+fn shows_nothing(
+    given: &ExtractOptions<'_>,
+    told: &ToldOutcomes<'_>,
+    run: &Result<Extracted, ExtractFault>,
+) -> bool
+    ensures { result ≡ shows_nothing given.now told.now.bootstrap run.now }
+{
+    let found_none = match given.printed {
+        Printed::Manifest => false,
+        Printed::Words(_) => gives_nothing(run),
+    };
+    is_nothing_asked(given.wanted.gaps, told) || found_none
 }
 
 /// Returns the exit status and the lines of a run and of its tar stream, if there is one.
@@ -169,17 +197,18 @@ fn report(
     left: (&[Path], Option<TarEnd>),
 ) -> io::Result<u8>
     ensures status { IfOk result (λ status.
-        status ≡ told_status (asks_in given.now.wanted.gaps told.now.bootstrap) run.now left.entry.0.now left.entry.1) }
+        status ≡ told_status (shows_nothing given.now told.now.bootstrap run.now) run.now left.entry.0.now left.entry.1) }
 {
     let (failed, end) = left;
-    let asks_nothing = is_nothing_asked(given.wanted.gaps, told);
-    let ending = whole_ending(rt.alloc(), asks_nothing, run, failed, end)?;
+    let is_nothing = shows_nothing(given, told, run);
+    let ending = whole_ending(rt.alloc(), is_nothing, run, failed, end)?;
     if let Err(fault) = run {
         let name = manifest_file(given).unwrap_or("standard output");
         tell_stream(rt, gauge, name, fault)?;
     }
     gauge.log_refusals(&ending.refusal);
     let status = ending.print(rt)?;
+    say_unended(rt, gauge, given.target, end)?;
     match run {
         Ok(done) => say_done(rt, gauge, given.target, done, failed)?,
         Err(ExtractFault::Piece(fault)) if lacks_volumes(fault) => {

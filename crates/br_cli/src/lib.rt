@@ -1,7 +1,7 @@
-//! The commands of the program except `console` and `jobs`, which are in br_cli_console: what each
-//! reads, does and prints, and its exit status.
+//! The commands of the program except those over a catalogue alone, which are in br_cli_console and
+//! br_cli_listing: what each reads, does and prints, and its exit status.
 //!
-//! `extract` and `check` restore and check by a bootstrap. `serve` runs scripts that commit jobs and
+//! `extract`, `restore` and `check` restore and check by a bootstrap. `serve` runs scripts that commit jobs and
 //! restore, over a catalogue in a file and volumes in a folder, or in memory: `set_up_serve` makes a
 //! keeper of both, `serve_over` runs a script over it, and `FolderVolumes` are the volumes, which a
 //! `FolderReader` reads. The caller provides the jobs of a catalogue, as a `Catalogue` of br_keeper.

@@ -1,3 +1,2 @@
 mod LoadedLaws
-mod NameLaws
 mod SessionLaws

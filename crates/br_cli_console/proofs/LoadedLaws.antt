@@ -7,7 +7,8 @@ use Rattle.br_history.proofs.NeededLaws.{chosen_choose_alike}
 use Rattle.br_console.proofs.ChoiceAloneLaws.{runs_depend_on_choice_lem}
 use Rattle.br_cli_common.specs.declared.options.FileRows.{FileRows}
 use Rattle.br_cli_common.specs.declared.options.FileRows.TheVariants.{All, Needed}
-use Rattle.br_cli_console.specs.LoadedJobs.{SessionsAlike, loaded}
+use Rattle.br_cli_listing.specs.LoadedJobs.{loaded}
+use Rattle.br_cli_console.specs.SessionJobs.{SessionsAlike}
 
 choice_is : (rows : FileRows) (q : Request) (jobs : List JobRows) → choose (loaded rows (needed_for q) jobs) q ≡ choose jobs q
 choice_is Needed q jobs = chosen_choose_alike jobs q

@@ -1,10 +1,5 @@
-pub mod AskedJobs
-pub mod ChosenJobs
+pub mod SessionJobs
 pub mod ConsoleCommandEnding
 pub mod ConsoleStarting
 pub mod ConsoleTasks
-pub mod LoadedJobs
-pub mod LocalCommands
-pub mod DirLines
-pub mod ListedJobs
 pub mod UnmatchedLines

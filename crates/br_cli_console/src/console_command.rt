@@ -1,12 +1,11 @@
-//! The command `console`.
+//! The command `console`, and `restore` by a catalogue.
 ghost use Rattle.std.specs.Prelude.{◌≡◌, ◌++◌, length, option_map, None, Some, Ok, IfOk, IfSome, IsSome, OnOk};
 ghost use Rattle.br_model.specs.Answer.{Answers};
 ghost use Rattle.br_cli_common.specs.Options.{AreFew};
 ghost use Rattle.br_pool.specs.Pool.{AreDrives};
 ghost use Rattle.br_plan.specs.RequestWords.{cause};
 ghost use Rattle.br_volume.specs.HostDrives.{AreOver};
-ghost use Rattle.br_cli_console.specs.AskedJobs.{request_asked};
-ghost use Rattle.br_cli_console.specs.LoadedJobs.{AreJobsOf};
+ghost use Rattle.br_cli_console.specs.SessionJobs.{AreJobsOf, request_asked};
 ghost use Rattle.br_cli_target.specs.AskedTarget.{folder_asked, stream_asked};
 ghost use Rattle.br_cli_console.specs.ConsoleCommandEnding.{end_line, end_status, extent, extent_by, lines_status, put_extent, run_refusal, run_status, status_by};
 ghost use Rattle.br_cli_console.specs.ConsoleStarting.{start_number};
@@ -15,24 +14,21 @@ ghost use Rattle.br_cli_target.specs.TextPlaces.{answers_place};
 ghost use Rattle.br_cli_console.specs.ConsoleTasks.{IsInputOf, RunsOn, Streams, tar};
 ghost use Rattle.br_cli_console.specs.declared.console_command.ConsoleStartFault.TheVariants as start;
 
-use crate::chosen_jobs::tell_chosen;
-use crate::helped_reader::{Helped, with_help};
-use crate::loaded_jobs::{ChosenFiles, jobs_in};
 use crate::pattern_marks::prepare_patterns;
 use crate::session_manifest::{
     Outputs, SessionInput, end_file, manifest_at, run_session, told_by, watched_outputs,
 };
-use crate::shown_names::NamesWriter;
 use br_cli_common::{
     BAD_STREAM, CLEAN, ConsoleOptions, Marks, Prompted, REFUSED, Target, is_attended, with_prompt,
 };
+use br_cli_listing::{ChosenFiles, Helped, NamesWriter, jobs_in, tell_chosen, with_help};
 use br_cli_progress::{Gauge, WatchedSink, WatchedWriter};
 use br_cli_target::{
-    Channel, Ending, LeavingSink, PutExtent, Settle, Streamed, TarFault, TextOutput, ToldOutcomes,
-    add_tar_end, end_stream, folder_of, gauge_of, is_whole, lacks_volumes, leaving_over, left_out,
-    log_fault, refuse_log, refuse_manifest, refuse_place, restore_over, say_conflicts, say_files,
-    say_nowhere, say_stop, say_volumes, tar_into, tar_output, tell_others, tell_outcomes,
-    with_watched_drives, with_watched_sink,
+    Channel, Ending, LeavingSink, PutExtent, Settle, Streamed, TarEnd, TarFault, TextOutput,
+    ToldOutcomes, add_tar_end, end_stream, folder_of, gauge_of, is_whole, lacks_volumes,
+    leaving_over, left_out, log_fault, refuse_log, refuse_manifest, refuse_place, restore_over,
+    say_conflicts, say_files, say_nowhere, say_stop, say_unended, say_volumes, tar_into,
+    tar_output, tell_others, tell_outcomes, with_watched_drives, with_watched_sink,
 };
 use br_console::{ConsoleFault, ConsoleRun, End, LineVerdict};
 use br_engine::{Flush, Restore, RestoreEnd};
@@ -186,23 +182,24 @@ fn say_end(
 }
 
 /// Prints the end of a run to standard error, and explains it to a terminal and the log. The ending
-/// contains the other refusals. Returns the exit status.
+/// contains the other refusals. If there was a stream, `noted` has its end. Returns the exit status.
 fn report(
     rt: &HostRuntime,
     gauge: &Gauge<'_>,
     given: &ConsoleOptions<'_>,
-    noted: (&ToldOutcomes<'_>, &[Path]),
+    noted: (&ToldOutcomes<'_>, &[Path], Option<TarEnd>),
     run: &Result<ConsoleRun, ConsoleFault>,
     ending: &Ending,
 ) -> io::Result<u8>
     ensures { IfOk result (λ status. status ≡ ending.now.status) }
 {
-    let (told, failed) = noted;
+    let (told, failed, end) = noted;
     if let Err(fault) = run {
         tell_stream(rt, gauge, given, fault)?;
     }
     gauge.log_refusals(&ending.refusal);
     let status = ending.print(rt)?;
+    say_unended(rt, gauge, given.target, end)?;
     match run {
         Ok(run) => say_end(rt, gauge, given.target, &run.end, failed)?,
         Err(ConsoleFault::Piece(fault)) if lacks_volumes(fault) => {
@@ -551,7 +548,7 @@ fn restore_into<'r, C: Catalogue, A: TextOutput + Drop>(
     let failed = left_out(&restore.sink);
     let ending = console_ending(rt.alloc(), &run, is_warned, failed)?;
     let told = told_by(&out);
-    let status = report(rt, gauge, given, (&told, failed), &run, &ending)?;
+    let status = report(rt, gauge, given, (&told, failed, None), &run, &ending)?;
     end_file(rt, gauge, given.manifest, &mut out.manifest, status)
 }
 
@@ -624,7 +621,14 @@ fn restore_onto<'r, T: Channel + Drop, A: TextOutput + Drop>(
     let mut ending = console_ending(rt.alloc(), &stream.run, is_warned, &[])?;
     add_tar_end(&mut ending, stream.end)?;
     let told = told_by(&out);
-    let status = report(rt, gauge, given, (&told, &[]), &stream.run, &ending)?;
+    let status = report(
+        rt,
+        gauge,
+        given,
+        (&told, &[], Some(stream.end)),
+        &stream.run,
+        &ending,
+    )?;
     end_file(rt, gauge, given.manifest, &mut out.manifest, status)
 }
 

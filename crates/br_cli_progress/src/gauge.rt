@@ -269,6 +269,12 @@ impl<'r> Gauge<'r> {
         self.tell();
     }
 
+    /// Notes that the stream which the files were put into could not be ended. Which of them are in it
+    /// is not known, so none counts as put.
+    pub fn note_unended(&self) {
+        self.put.store(0, Ordering::SeqCst);
+    }
+
     /// Removes the line from the terminal, if it is there.
     pub fn clear(&self) {
         if self.is_up.swap(false, Ordering::SeqCst) {

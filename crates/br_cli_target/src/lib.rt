@@ -38,7 +38,7 @@ pub use text_output::{TextOutput, end_manifest, open_manifest, refuse_manifest};
 pub use told_outcomes::{ToldOutcomes, advise, say_volumes, tell_outcomes};
 pub use told_target::{
     lacks_volumes, log_fault, refuse_place, say_conflicts, say_files, say_nowhere, say_place,
-    say_stop, tell_others,
+    say_stop, say_unended, tell_others,
 };
 pub use watched_restore::{gauge_of, refuse_log};
 pub use whole_restore::{is_whole, left_out};

@@ -3,6 +3,7 @@ ghost use Rattle.std.specs.Prelude.{◌≡◌, ◌||◌, ◌==◌, IfOk};
 ghost use Rattle.std.specs.Result.{IsErr};
 ghost use Rattle.br_pool.specs.Fault.{fault_number};
 
+use crate::target_tar::TarEnd;
 use br_cli_common::{
     Matter, Reason, Target, reason_of_file, reason_of_folder, reason_of_new_file, refuse_start,
 };
@@ -11,7 +12,7 @@ use br_engine::{RestoreCause, RestoreEnd};
 use br_join::Outcome;
 use br_match::{PieceCause, PieceFault};
 use br_pool::PoolFault;
-use br_sink::StopCause;
+use br_sink::{SinkFault, StopCause};
 use br_sink_folder::{others_in, push_others};
 use br_types::{FileKey, Path, push_escaped};
 use std::fmt;
@@ -107,6 +108,15 @@ pub fn say_files(
     }
 }
 
+/// Reports that a stream can't be written, if the target is one.
+fn say_unwritten(rt: &HostRuntime, gauge: &Gauge<'_>, target: Target<'_>) -> io::Result<()> {
+    match target {
+        Target::TarFile(file) => say_stream(rt, gauge, file, Matter::Unwritten),
+        Target::TarOutput => say_stream(rt, gauge, OUTPUT, Matter::Unwritten),
+        Target::Nowhere | Target::Folder(_) => Ok(()),
+    }
+}
+
 /// Reports why a sink failed at the file of a path.
 fn say_failure(
     rt: &HostRuntime,
@@ -115,12 +125,32 @@ fn say_failure(
     path: &Path,
 ) -> io::Result<()> {
     match target {
-        Target::Nowhere => Ok(()),
         Target::Folder(folder) => {
             say_reason(rt, gauge, &reason_of_file(rt, folder, path.bytes())?)
         }
-        Target::TarFile(file) => say_stream(rt, gauge, file, Matter::Unwritten),
-        Target::TarOutput => say_stream(rt, gauge, OUTPUT, Matter::Unwritten),
+        _ => say_unwritten(rt, gauge, target),
+    }
+}
+
+/// Reports why the end of a stream could not be written, if that is so. Which files are in the
+/// stream is not known then, so none counts as put.
+///
+/// # Errors
+///
+/// If memory ran out, or standard error failed.
+pub fn say_unended(
+    rt: &HostRuntime,
+    gauge: &Gauge<'_>,
+    target: Target<'_>,
+    end: Option<TarEnd>,
+) -> io::Result<()> {
+    let Some(TarEnd::Refused(fault)) = end else {
+        return Ok(());
+    };
+    gauge.note_unended();
+    match fault {
+        SinkFault::Fault if gauge.is_watching() => say_unwritten(rt, gauge, target),
+        _ => Ok(()),
     }
 }
 

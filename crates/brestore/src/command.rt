@@ -6,7 +6,8 @@ use br_cli::{
     serve_memory,
 };
 use br_cli_common::{Invocation, greet};
-use br_cli_console::{list, restore_marked};
+use br_cli_console::restore_marked;
+use br_cli_listing::list;
 use br_keeper::Catalogue;
 use std::io;
 use std::sync::Wait;

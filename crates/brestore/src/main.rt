@@ -9,7 +9,7 @@
 //! program does the same in memory.
 //!
 //! The words of the command line are read by br_cli_args, catalogues are in files of SQLite
-//! (br_catalog_files), and what the commands do is in br_cli and br_cli_console.
+//! (br_catalog_files), and what the commands do is in br_cli, br_cli_console and br_cli_listing.
 #![tactic(auto)]
 
 mod command;

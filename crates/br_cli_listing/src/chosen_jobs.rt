@@ -1,7 +1,7 @@
 //! The chosen jobs, as they are told before a session.
 ghost use Rattle.std.specs.Prelude.{◌≡◌, map, Ok, IfOk};
 ghost use Rattle.br_model.specs.Choice.{choose};
-ghost use Rattle.br_cli_console.specs.ChosenJobs.{has_warning};
+ghost use Rattle.br_cli_listing.specs.ChosenJobs.{has_warning};
 
 use br_choose::ChooseFault;
 use br_cli_common::{is_shown, reason_of_read};

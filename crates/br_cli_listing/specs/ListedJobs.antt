@@ -9,8 +9,8 @@ use Rattle.br_cli_common.specs.declared.options.JobsOptions.{JobsOptions}
 use Rattle.br_jobs.specs.JobMarks.{marks}
 use Rattle.br_jobs.specs.ListedFiles.{needed_by}
 use Rattle.br_jobs.specs.declared.job_filter.Filter.{Filter}
-use Rattle.br_cli_console.specs.ChosenJobs.{list_status}
-use Rattle.br_cli_console.specs.LoadedJobs.{AreLoaded, rows_for}
+use Rattle.br_cli_listing.specs.ChosenJobs.{list_status}
+use Rattle.br_cli_listing.specs.LoadedJobs.{AreLoaded, rows_for}
 
 -- the moment before which jobs are listed, if one is given, or why it is refused
 abbrev pub before_asked : Option (Bor (List ℕ)) → Result (Option ℕ) ℕ

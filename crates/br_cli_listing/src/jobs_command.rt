@@ -3,9 +3,9 @@ ghost use Rattle.br_model.specs.Answer.{AnswersAlways};
 ghost use Rattle.br_model.specs.Text.{is_empty};
 ghost use Rattle.br_plan.specs.Fault.{moment_number};
 ghost use Rattle.br_jobs.specs.JobMarks.{marks};
-ghost use Rattle.br_cli_console.specs.ChosenJobs.{list_status, warned_status};
-ghost use Rattle.br_cli_console.specs.ListedJobs.{EndsList, before_asked, filter_asked};
-ghost use Rattle.br_cli_console.specs.LoadedJobs.{lists_all, rows_for};
+ghost use Rattle.br_cli_listing.specs.ChosenJobs.{list_status, warned_status};
+ghost use Rattle.br_cli_listing.specs.ListedJobs.{EndsList, before_asked, filter_asked};
+ghost use Rattle.br_cli_listing.specs.LoadedJobs.{lists_all, rows_for};
 
 use crate::loaded_jobs::jobs_in;
 use crate::time_zone::SystemZones;

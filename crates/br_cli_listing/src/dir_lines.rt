@@ -1,6 +1,6 @@
 //! The lines of `dir`.
 ghost use Rattle.std.specs.Prelude.{◌≡◌, ◌++◌, IfOk, OnOk};
-ghost use Rattle.br_cli_console.specs.DirLines.{AppendsName, IsMomentText, at_end, line_of, size_text};
+ghost use Rattle.br_cli_listing.specs.DirLines.{AppendsName, IsMomentText, at_end, line_of, size_text};
 
 use br_jobs::moment_text;
 use br_types::{push_escaped, push_number};

@@ -1,6 +1,6 @@
 //! The jobs of a catalogue, with the files that a command needs.
 ghost use Rattle.std.specs.Prelude.{IfOk};
-ghost use Rattle.br_cli_console.specs.LoadedJobs.{AreLoaded, SessionsAlike};
+ghost use Rattle.br_cli_listing.specs.LoadedJobs.{AreLoaded};
 
 use br_choose::ChooseFault;
 use br_cli_common::FileRows;
@@ -13,8 +13,9 @@ use std::fs;
 
 /// The files that a session needs: those of the jobs that its request chooses.
 #[derive(Clone, Copy)]
-pub(crate) struct ChosenFiles<'r> {
-    pub(crate) request: &'r Request,
+pub struct ChosenFiles<'r> {
+    /// The request.
+    pub request: &'r Request,
 }
 
 impl Needs for ChosenFiles<'_> {
@@ -50,7 +51,11 @@ fn load<C: Catalogue, N: Needs>(
 
 /// Loads the jobs in the file of a catalogue with all files, or with those that are needed, if the
 /// file is there and has bytes: a catalogue has tables, and a file without bytes has none.
-pub(crate) fn jobs_in<C: Catalogue, N: Needs>(
+///
+/// # Errors
+///
+/// `Unreadable` if there is no file or it stays without bytes, and those of the catalogue.
+pub fn jobs_in<C: Catalogue, N: Needs>(
     rt: &HostRuntime,
     catalogue: &C,
     db: &str,
@@ -72,9 +77,3 @@ pub(crate) fn jobs_in<C: Catalogue, N: Needs>(
         Ok(history)
     }
 }
-
-/// States that a session over the jobs of which the chosen ones alone have their files is the session
-/// over all jobs with their files: choice, dialogue, bootstrap, plan and names.
-pub fn sessions_are_alike()
-    ensures { SessionsAlike }
-{}

@@ -2,8 +2,8 @@
 use Rattle.std.specs.Prelude.{ℕ, List, ◌||◌, bytes_eq, codes, if◌then◌else◌}
 use Rattle.std.specs.Io.BufRead.{strip_last}
 use Rattle.br_model.specs.Text.{is_blank, trim_by}
-use Rattle.br_cli_console.specs.declared.local_command.LocalCommand.{LocalCommand}
-use Rattle.br_cli_console.specs.declared.local_command.LocalCommand.TheVariants.{Dir, Exit, Folder, Help, LongList, Nothing, Other}
+use Rattle.br_cli_listing.specs.declared.local_command.LocalCommand.{LocalCommand}
+use Rattle.br_cli_listing.specs.declared.local_command.LocalCommand.TheVariants.{Dir, Exit, Folder, Help, LongList, Nothing, Other}
 
 -- a line without its line feed and without blanks at its ends
 abbrev pub word_of : List ℕ → List ℕ

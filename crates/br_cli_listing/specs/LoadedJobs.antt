@@ -1,13 +1,10 @@
 -- The jobs of a catalogue, with the files that a command needs.
 use Rattle.std.specs.Prelude.{◌≡◌, ℕ, ◌&&◌, not, Bool, if◌then◌else◌, List, Option, is_some, IfSome}
-use Rattle.br_model.specs.Choice.{Request, choose}
 use Rattle.br_model.specs.Job.{JobRows}
-use Rattle.br_history.specs.Needed.{needed_for, with_needed}
+use Rattle.br_history.specs.Needed.{with_needed}
 use Rattle.br_cli_common.specs.declared.options.FileRows.{FileRows}
 use Rattle.br_cli_common.specs.declared.options.FileRows.TheVariants.{All, Needed}
-use Rattle.br_console.specs.Running.{begun}
 use Rattle.br_jobs.specs.declared.job_filter.Filter.{Filter}
-use Rattle.br_cli_console.specs.declared.console_command.ConsoleJobs.{ConsoleJobs}
 
 -- the jobs with all files, or with those of the jobs alone whose files are needed
 abbrev pub loaded : FileRows → (List JobRows → List ℕ) → List JobRows → List JobRows
@@ -17,17 +14,6 @@ loaded All needed jobs = jobs
 -- these are the jobs of a catalogue, if it tells them, with the files that are looked at
 abbrev pub AreLoaded : Option (List JobRows) → FileRows → (List JobRows → List ℕ) → List JobRows → Type 0
 AreLoaded told rows needed history = IfSome told (λ jobs. history ≡ loaded rows needed jobs)
-
--- the jobs of a session are those of a catalogue, with all files or with those that its request needs
-abbrev pub AreJobsOf : Option (List JobRows) → FileRows → ConsoleJobs → Type 0
-AreJobsOf told rows jobs = AreLoaded told rows (needed_for jobs.request) jobs.history
-
--- A law: with the files of the chosen jobs alone a session is what it is with all files. The request
--- chooses the same, or has the same refusal, and dialogue, bootstrap, plan and names are the same.
-abbrev pub SessionsAlike : Type 0
-SessionsAlike =
-    (rows : FileRows) (q : Request) (jobs : List JobRows) (text : List ℕ)
-    → (choose (loaded rows (needed_for q) jobs) q ≡ choose jobs q) × (begun (loaded rows (needed_for q) jobs) q text ≡ begun jobs q text)
 
 -- whether a filter lists all jobs
 abbrev pub lists_all : Filter → Bool

@@ -1,6 +1,6 @@
 ghost use Rattle.std.specs.Prelude.{◌≡◌};
 ghost use Rattle.std.specs.Io.BufRead.{strip_last};
-ghost use Rattle.br_cli_console.specs.LocalCommands.{asked_by, asked_of};
+ghost use Rattle.br_cli_listing.specs.LocalCommands.{asked_by, asked_of};
 
 use br_types::trimmed;
 

@@ -1,5 +1,5 @@
 use Rattle.br_cli_console.proofs.LoadedLaws.{sessions_alike}
-use Rattle.br_cli_console.proofs.loaded_jobs.sessions_are_alike.Goals as goal
+use Rattle.br_cli_console.proofs.alike_sessions.sessions_are_alike.Goals as goal
 
 pub returns : goal.returns
 returns c = sessions_alike

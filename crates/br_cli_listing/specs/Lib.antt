@@ -1,0 +1,5 @@
+pub mod ChosenJobs
+pub mod LoadedJobs
+pub mod LocalCommands
+pub mod DirLines
+pub mod ListedJobs
