@@ -64,6 +64,8 @@ def helps(checks, folder, db):
     found = [line.split(" ")[0] for line in lines if line[:1].isalpha() and line[:1].islower()]
     checks.check("help", (status, printed, shown[-1]), (0, "", PROMPT + QUIT))
     checks.check("each command has a line", found, COMMANDS)
+    checks.check("no line is too long", [line for line in lines if len(line) > 80], [])
+    checks.check("what `?` stands for", "`?` for one byte" in " ".join(lines), True)
 
 
 def lists(checks, folder, db):

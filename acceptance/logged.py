@@ -239,6 +239,23 @@ def checks_faults(checks):
         checks.check_run("a bootstrap that is missing", folder, [], plain, told)
 
 
+def checks_untaken(checks):
+    """A stream on standard output that takes no byte: its reader has ended, or its disk is full."""
+    untaken = "  standard output takes no more bytes: the program that reads it has ended, or its disk is full. "
+    untaken += "Next: Let that program read to the end, or free space."
+    reader, pipe = os.pipe()
+    os.close(reader)
+    for name, output in (("without a reader", pipe), ("to a full disk", os.open("/dev/full", os.O_WRONLY))):
+        with tempfile.TemporaryDirectory() as made, open(output, "wb") as stream:
+            folder = Path(made)
+            # The first file is longer than what may wait to be written.
+            manifest, log = write_volume(folder, [(b"/in/long", LONG * 8), SOME[2]]), folder / "restore.log"
+            words = ["extract", "--bsr", folder / "x.bsr", "--volumes", folder / "volumes", "--tar", "-", "--log", log]
+            ran = subprocess.run([checks.program, *words], stdin=subprocess.DEVNULL, stdout=stream, stderr=subprocess.PIPE)
+            checks.check(f"a stream {name}", (ran.returncode, ran.stderr), (1, manifest + b"refused 80\n"))
+            checks.check("and its log", lines_of(log), ["failed /in/long", "refused 80", *words_of(80), untaken, *count(0, 2)])
+
+
 def checks_standard_error(checks):
     """Logs on standard error, between its other lines."""
     with tempfile.TemporaryDirectory() as made:
@@ -375,6 +392,7 @@ def main():
     checks_denied(checks)
     checks_faults(checks)
     checks_pipe(checks)
+    checks_untaken(checks)
     checks_standard_error(checks)
     checks_lost(checks)
     checks_console(checks)

@@ -96,13 +96,13 @@ rows_below_50 =
     (codes "Free memory, or check space and permissions; then name another volume in `place`.") ∷
     row_with 45 (codes "StoreFault")
     (codes "The catalogue is missing, empty, in use, cannot be opened, or is no sound database with the tables of this program.")
-    (codes "Check `--db`, and whether you may read it. If a `-journal` lies beside the file, let `sqlite3` open it once, in a folder that can be written. Copy a file that has a second name (a hard link). Else try another copy, or restore by a bootstrap with `extract`; import a catalogue of Bacula's.") ∷
+    (codes "Check `--db`, and whether you may read it. If a `-journal` lies beside the file, let `sqlite3` open it once, in a folder that can be written. Copy a file that has a second name (a hard link). Else try another copy, or use `restore` with a bootstrap; import a catalogue of Bacula's.") ∷
     row_with 46 (codes "StoredNotPublished")
     (codes "The job is in the catalogue, but restores do not see it yet.")
     (codes "In a script, free memory and commit again, which publishes the job first.") ∷
     row_with 47 (codes "BadCatalogue")
     (codes "The catalogue is not of version 2, for `migrate` not of version 1, or its rows contradict each other.")
-    (codes "If `migrate` says it, try `console`; else try another copy, or restore by a bootstrap with `extract`.") ∷
+    (codes "If `migrate` says it, try `console`; else try another copy, or use `restore` with a bootstrap.") ∷
     row_with 48 (codes "OldCatalogue")
     (codes "The catalogue is of version 1, which this program no longer reads as it is.")
     (codes "Keep a copy of the file, and make it version 2 with `migrate`.") ∷ []
@@ -112,7 +112,7 @@ abbrev pub rows_from_50 : List Row
 rows_from_50 =
     row_with 50 (codes "NoFull")
     (codes "No good Full backup of this client and file set began before the moment.")
-    (codes "Choose a later moment, in UTC, or restore by a bootstrap with `extract`.") ∷
+    (codes "Choose a later moment, in UTC, or use `restore` with a bootstrap.") ∷
     row_with 51 (codes "NothingMarked")
     (codes "No path was marked when `done` was typed, or no pattern of `restore` meets a path.")
     (codes "Run the command again, and mark paths before `done`, or name paths that `console` lists.") ∷
@@ -130,16 +130,16 @@ rows_from_50 =
     (codes "Type `cd`, `pwd`, `ls`, `mark`, `unmark`, `markdir`, `unmarkdir`, `count`, `lsmark`, `find`, `estimate`, `done` or `quit`; at a terminal also `help` or `dir`.") ∷
     row_with 56 (codes "NoSuchDirectory")
     (codes "The argument of `cd` is no directory at this moment.")
-    (codes "Look with `pwd` and `ls`, and type names without quotes or escapes. For a file go to its folder.") ∷
+    (codes "Look with `pwd` and `ls`, and type names without quotes; only a terminal takes escapes. For a file go to its folder.") ∷
     row_with 57 (codes "NoMatch")
     (codes "Nothing in the current directory matches the pattern, or for `find` nothing at all.")
-    (codes "Type one name of this folder, without `/`, quotes or escapes; `cd` goes to another one, `ls` and `find` show names. Else choose another moment.") ∷
+    (codes "Type one name of this folder, without `/` or quotes; only a terminal takes escapes. `cd` goes to another folder, `ls` and `find` show names. Else choose another moment.") ∷
     row_with 58 (codes "StrangerPiece")
     (codes "The hits that were handed in belong to a piece that the restore does not have.")
     (codes "Only library calls return it: hand in hits of the restore's own pieces.") ∷
     row_with 59 (codes "NotEnabled")
     (codes "The model of restores cannot take this event in its state.")
-    (codes "No code returns it: it belongs to the model in docs/model.md.") ∷
+    (codes "Only library calls return it: it belongs to the model in docs/model.md.") ∷
     row_with 60 (codes "Orphan")
     (codes "A continuation of a record comes without the beginning.")
     (codes "Give the groups of a bootstrap in the order of writing; else try another copy or choose an earlier moment.") ∷
@@ -148,7 +148,7 @@ rows_from_50 =
     (codes "Check that the bootstrap names all volumes, in the order of writing; else try another copy or choose an earlier moment.") ∷
     row_with 62 (codes "SizeDiffers")
     (codes "A continuation of a record states another number of bytes than are still to come.")
-    (codes "Give the groups of a bootstrap in the order of writing; else try another copy or choose an earlier moment.") ∷
+    (codes "Give the groups of a bootstrap in the order of writing. If `check` prints a line `label`, that volume has another one's name: rename it. Else try another copy or choose an earlier moment.") ∷
     row_with 63 (codes "NoAttributes")
     (codes "The volumes have no attribute record of the file, or no part at all of a planned file.")
     (codes "Copy the volume again, since it may be cut, and check that it belongs to the catalogue: once Bacula recycles a volume, its older jobs are lost. Else try another copy or choose another moment.") ∷

@@ -47,6 +47,8 @@ pub enum Matter {
     Unread(io::Error),
     /// A file can be made there, so its bytes could not be written.
     Unwritten,
+    /// Standard output takes no more bytes of a stream.
+    Untaken,
     /// Nothing that can still be seen is wrong.
     Gone,
 }
@@ -66,6 +68,9 @@ impl fmt::Display for Matter {
             Matter::Unwritten => {
                 f.write_str("can be made but not written: the disk is full, or it fails")
             }
+            Matter::Untaken => f.write_str(
+                "takes no more bytes: the program that reads it has ended, or its disk is full",
+            ),
             Matter::Gone => f.write_str("is refused no more"),
         }
     }
@@ -116,6 +121,7 @@ impl Matter {
             Matter::Refused(error) => next_after(error.kind()),
             Matter::Unread(error) => next_after_reading(error.kind()),
             Matter::Unwritten => "Free space (`df` shows it), or choose a folder on another disk.",
+            Matter::Untaken => "Let that program read to the end, or free space.",
             Matter::Gone => "Run the command again.",
         }
     }

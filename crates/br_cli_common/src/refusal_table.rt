@@ -157,7 +157,7 @@ pub(crate) const BELOW_50: [Refusal; 29] = [
         number: 45,
         name: "StoreFault",
         meaning: "The catalogue is missing, empty, in use, cannot be opened, or is no sound database with the tables of this program.",
-        next: "Check `--db`, and whether you may read it. If a `-journal` lies beside the file, let `sqlite3` open it once, in a folder that can be written. Copy a file that has a second name (a hard link). Else try another copy, or restore by a bootstrap with `extract`; import a catalogue of Bacula's.",
+        next: "Check `--db`, and whether you may read it. If a `-journal` lies beside the file, let `sqlite3` open it once, in a folder that can be written. Copy a file that has a second name (a hard link). Else try another copy, or use `restore` with a bootstrap; import a catalogue of Bacula's.",
     },
     Refusal {
         number: 46,
@@ -169,7 +169,7 @@ pub(crate) const BELOW_50: [Refusal; 29] = [
         number: 47,
         name: "BadCatalogue",
         meaning: "The catalogue is not of version 2, for `migrate` not of version 1, or its rows contradict each other.",
-        next: "If `migrate` says it, try `console`; else try another copy, or restore by a bootstrap with `extract`.",
+        next: "If `migrate` says it, try `console`; else try another copy, or use `restore` with a bootstrap.",
     },
     Refusal {
         number: 48,
@@ -185,7 +185,7 @@ pub(crate) const FROM_50: [Refusal; 26] = [
         number: 50,
         name: "NoFull",
         meaning: "No good Full backup of this client and file set began before the moment.",
-        next: "Choose a later moment, in UTC, or restore by a bootstrap with `extract`.",
+        next: "Choose a later moment, in UTC, or use `restore` with a bootstrap.",
     },
     Refusal {
         number: 51,
@@ -221,13 +221,13 @@ pub(crate) const FROM_50: [Refusal; 26] = [
         number: 56,
         name: "NoSuchDirectory",
         meaning: "The argument of `cd` is no directory at this moment.",
-        next: "Look with `pwd` and `ls`, and type names without quotes or escapes. For a file go to its folder.",
+        next: "Look with `pwd` and `ls`, and type names without quotes; only a terminal takes escapes. For a file go to its folder.",
     },
     Refusal {
         number: 57,
         name: "NoMatch",
         meaning: "Nothing in the current directory matches the pattern, or for `find` nothing at all.",
-        next: "Type one name of this folder, without `/`, quotes or escapes; `cd` goes to another one, `ls` and `find` show names. Else choose another moment.",
+        next: "Type one name of this folder, without `/` or quotes; only a terminal takes escapes. `cd` goes to another folder, `ls` and `find` show names. Else choose another moment.",
     },
     Refusal {
         number: 58,
@@ -239,7 +239,7 @@ pub(crate) const FROM_50: [Refusal; 26] = [
         number: 59,
         name: "NotEnabled",
         meaning: "The model of restores cannot take this event in its state.",
-        next: "No code returns it: it belongs to the model in docs/model.md.",
+        next: "Only library calls return it: it belongs to the model in docs/model.md.",
     },
     Refusal {
         number: 60,
@@ -257,7 +257,7 @@ pub(crate) const FROM_50: [Refusal; 26] = [
         number: 62,
         name: "SizeDiffers",
         meaning: "A continuation of a record states another number of bytes than are still to come.",
-        next: "Give the groups of a bootstrap in the order of writing; else try another copy or choose an earlier moment.",
+        next: "Give the groups of a bootstrap in the order of writing. If `check` prints a line `label`, that volume has another one's name: rename it. Else try another copy or choose an earlier moment.",
     },
     Refusal {
         number: 63,

@@ -21,7 +21,8 @@ estimate             prints how many paths are marked, and the bytes of their
 done                 restores what is marked
 quit                 ends without a restore
 help                 prints this, as `?` does
-In a pattern `*` stands for any letters and `?` for one.
+In a pattern `*` stands for any text and `?` for one byte. A letter that is not
+ASCII has several.
 Patterns name files of the folder. So mark `/etc/hosts` with two lines:
 `cd /etc`, then `mark hosts`.
 ";

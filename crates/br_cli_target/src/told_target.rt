@@ -112,7 +112,7 @@ pub fn say_files(
 fn say_unwritten(rt: &HostRuntime, gauge: &Gauge<'_>, target: Target<'_>) -> io::Result<()> {
     match target {
         Target::TarFile(file) => say_stream(rt, gauge, file, Matter::Unwritten),
-        Target::TarOutput => say_stream(rt, gauge, OUTPUT, Matter::Unwritten),
+        Target::TarOutput => say_stream(rt, gauge, OUTPUT, Matter::Untaken),
         Target::Nowhere | Target::Folder(_) => Ok(()),
     }
 }
