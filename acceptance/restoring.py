@@ -41,6 +41,8 @@ CONFLICTS = b"  /a/b conflicts with a path that was written before: one is a fil
 NO_UTF_8 = b"  /b\\xff\\xfe is not UTF-8, and a folder takes no such name here. Next: Use `--tar`, which takes every name.\n"
 NO_VOLUME = b"  VOLUMES/%s can't be read: No such file or directory (os error 2). Next: Copy it there, or correct the folder's name.\n"
 NO_FOLDER = b"is refused by the system: No such file or directory (os error 2). Next: Make the folder, or correct its name.\n"
+UNTAKEN = b"  standard output takes no more bytes: the program that reads it has ended, or its disk is full. "
+UNTAKEN += b"Next: Let that program read to the end, or free space.\n"
 MOVE = b"Next: Move it away, or choose another folder.\n"
 ONE_LEFT = b"1 of 2 files were put\n"
 
@@ -74,6 +76,8 @@ BOOTSTRAPS = [
     ("2,000 groups", PLAIN, GROUPS, 0, ALL_PUT, BOTH, both() + TWO),
     ("a volume that is not there", PLAIN, b"Volume=V\nVolume=W\n", 1, b"refused 14 W 0\n" + NO_VOLUME % b"W", {}, b""),
     ("a line that is not supported", PLAIN, b"Volume=V\nJob=1\n", 1, b"refused 32 line 2\n", {}, b""),
+    ("a session that is not there", PLAIN, b"Volume=V\nVolSessionId=9\n", 1, b"empty\n", {}, b"total 0 0 0\n"),
+    ("an index that is not there", PLAIN, INDEXES % b"9", 1, b"missing 1 100 9 V\n", {}, b"total 0 0 0\n"),
 ]
 
 
@@ -271,9 +275,12 @@ def streams(checks, folder):
         status, stream, told = run(checks, [*given, "-"])
         found = status, (len(stream), hashlib.md5(stream).hexdigest()), told
         checks.check(f"one on standard output, {front}", found, (0, BOTH_TAR, ALL_PUT))
-        with open("/dev/full", "wb") as output:
-            status, _, told = run(checks, [*given, "-"], output=output)
-        checks.check(f"one that is full, {front}", (status, first_line(told)), (1, b"refused 80"))
+        reader, pipe = os.pipe()
+        os.close(reader)
+        for name, output in (("that is full", os.open("/dev/full", os.O_WRONLY)), ("that nobody reads", pipe)):
+            with open(output, "wb") as stream:
+                status, _, told = run(checks, [*given, "-"], output=stream)
+            checks.check(f"one {name}, {front}", (status, told), (1, b"refused 80\n" + UNTAKEN + b"0 of 2 files were put\n"))
     place = Place(folder, COPIES)
     tar = place.folder / "x.tar"
     found = run(checks, [*by_bootstrap(place, b"Volume=V\nVolume=W\n"), "--tar", tar])
