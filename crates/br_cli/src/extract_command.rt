@@ -16,7 +16,7 @@ ghost use Rattle.br_cli_common.specs.declared.options.Printed.TheVariants.{Manif
 use br_bsr::{Bootstrap, BsrFault};
 use br_check::push_empty;
 use br_cli_common::{BAD_STREAM, CLEAN, ExtractOptions, Printed, REFUSED, Target, refuse_start};
-use br_cli_progress::{Gauge, WatchedSink, WatchedWriter};
+use br_cli_progress::{Gauge, WatchedDrive, WatchedSink, WatchedWriter};
 use br_cli_target::{
     Channel, Ending, LeavingSink, PutExtent, Settle, Streamed, TarEnd, TarFault, TextOutput,
     ToldOutcomes, add_tar_end, advise, end_manifest, end_stream, folder_of, gauge_of, is_whole,
@@ -521,14 +521,36 @@ fn extract_into<M: TextOutput + Drop>(
         Ok(setup) => setup,
         Err(fault) => return refuse_told(rt, gauge, given, fault),
     };
-    let bootstrap = extraction.bootstrap.bootstrap();
-    expect(gauge, bootstrap);
     let mut restore = with_watched_drives(restore, gauge)?;
     let mut writer = WatchedWriter::new(writer, gauge);
-    let run = extract_over(threads, &extraction, &mut restore, &mut writer);
+    run_into(
+        threads,
+        (rt, gauge),
+        given,
+        &extraction,
+        &mut restore,
+        &mut writer,
+    )
+}
+
+/// Runs a restore into a folder or nowhere, and reports its end. Returns the exit status.
+fn run_into<M: TextOutput + Drop>(
+    threads: &(impl Threads + Wait + Sync),
+    watch: (&HostRuntime, &Gauge<'_>),
+    given: &ExtractOptions<'_>,
+    extraction: &Extraction<'_>,
+    restore: &mut Restore<WatchedDrive<'_, '_, HostDrive<'_>>, LeavingSink<'_, '_>>,
+    writer: &mut WatchedWriter<'_, '_, BufWriter<M>>,
+) -> io::Result<u8>
+    requires drives { AreDrives restore.old.drives.items }
+{
+    let (rt, gauge) = watch;
+    let bootstrap = extraction.bootstrap.bootstrap();
+    expect(gauge, bootstrap);
+    let run = extract_over(threads, extraction, restore, writer);
     gauge.clear();
     name_others(rt, gauge, given, &run)?;
-    let told = ToldOutcomes::by(&writer, bootstrap);
+    let told = ToldOutcomes::by(writer, bootstrap);
     let left = (left_out(&restore.sink), None);
     let status = report(rt, gauge, given, &told, &run, left)?;
     let manifest = writer.inner.get_mut();
@@ -554,13 +576,39 @@ fn extract_onto<T: Channel + Drop, M: TextOutput + Drop>(
         Ok(setup) => setup,
         Err(fault) => return refuse_told(rt, gauge, given, fault),
     };
-    let bootstrap = extraction.bootstrap.bootstrap();
-    expect(gauge, bootstrap);
     let mut restore = with_watched_sink(with_watched_drives(restore, gauge)?, gauge);
     let mut writer = WatchedWriter::new(writer, gauge);
-    let stream = extract_stream(threads, &extraction, &mut restore, &mut writer);
+    run_onto(
+        threads,
+        (rt, gauge),
+        given,
+        &extraction,
+        &mut restore,
+        &mut writer,
+    )
+}
+
+/// Runs a restore into the tar stream of a sink, and reports its end. Returns the exit status.
+fn run_onto<T: Channel + Drop, M: TextOutput + Drop>(
+    threads: &(impl Threads + Wait + Sync),
+    watch: (&HostRuntime, &Gauge<'_>),
+    given: &ExtractOptions<'_>,
+    extraction: &Extraction<'_>,
+    restore: &mut Restore<
+        WatchedDrive<'_, '_, HostDrive<'_>>,
+        WatchedSink<'_, '_, TarSink<BufWriter<T>>>,
+    >,
+    writer: &mut WatchedWriter<'_, '_, BufWriter<M>>,
+) -> io::Result<u8>
+    requires drives { AreDrives restore.old.drives.items }
+    requires sink { IsSome restore.old.sink }
+{
+    let (rt, gauge) = watch;
+    let bootstrap = extraction.bootstrap.bootstrap();
+    expect(gauge, bootstrap);
+    let stream = extract_stream(threads, extraction, restore, writer);
     gauge.clear();
-    let told = ToldOutcomes::by(&writer, bootstrap);
+    let told = ToldOutcomes::by(writer, bootstrap);
     let end = Some(stream.end);
     let status = report(rt, gauge, given, &told, &stream.run, (&[], end))?;
     let manifest = writer.inner.get_mut();

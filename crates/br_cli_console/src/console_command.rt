@@ -16,13 +16,14 @@ ghost use Rattle.br_cli_console.specs.declared.console_command.ConsoleStartFault
 
 use crate::pattern_marks::prepare_patterns;
 use crate::session_manifest::{
-    Outputs, SessionInput, end_file, manifest_at, run_session, told_by, watched_outputs,
+    ManifestFile, Outputs, SessionInput, end_file, manifest_at, run_session, told_by,
+    watched_outputs,
 };
 use br_cli_common::{
     BAD_STREAM, CLEAN, ConsoleOptions, Marks, Prompted, REFUSED, Target, is_attended, with_prompt,
 };
 use br_cli_listing::{ChosenFiles, Helped, NamesWriter, jobs_in, tell_chosen, with_help};
-use br_cli_progress::{Gauge, WatchedSink, WatchedWriter};
+use br_cli_progress::{Gauge, WatchedDrive, WatchedSink, WatchedWriter};
 use br_cli_target::{
     Channel, Ending, LeavingSink, PutExtent, Settle, Streamed, TarEnd, TarFault, TextOutput,
     ToldOutcomes, add_tar_end, end_stream, folder_of, gauge_of, is_whole, lacks_volumes,
@@ -518,6 +519,9 @@ fn refuse_setup<C: Catalogue>(
 /// Where the answers of a session go, and the file of its manifest, if it has one.
 type SessionOutputs<A> = Outputs<NamesWriter<BufWriter<A>>, File>;
 
+/// The same outputs, which are watched.
+type WatchedSession<'g, 'r, A> = Outputs<SessionAnswers<'g, 'r, A>, ManifestFile<'g, 'r>>;
+
 /// Restores what is marked into a folder, or writes the manifest alone if there is none. The manifest
 /// goes to its file if there is one.
 fn restore_into<'r, C: Catalogue, A: TextOutput + Drop>(
@@ -537,17 +541,32 @@ fn restore_into<'r, C: Catalogue, A: TextOutput + Drop>(
         Err(fault) => return refuse_setup(rt, catalogue, gauge, given, &fault),
     };
     let mut restore = with_watched_drives(restore, gauge)?;
-    let asked = jobs.selection(rt.alloc());
-    let is_warned = tell_chosen(rt, &asked, given.volumes)?;
     let mut out = watched_outputs(rt, gauge, outputs)?;
-    let input = input_of((rt, gauge), &asked, &given.marks, &mut out.answers)?;
+    let asked = jobs.selection(rt.alloc());
     let order = (&asked, jobs.wanted);
-    let run = run_session(threads, &mut restore, order, input, &mut out);
+    session_into(threads, (rt, gauge), given, order, &mut restore, &mut out)
+}
+
+/// Runs a session into a folder or nowhere, and reports its end. Returns the exit status.
+fn session_into<A: TextOutput + Drop>(
+    threads: &(impl Threads + Wait + Sync),
+    watch: (&HostRuntime, &Gauge<'_>),
+    given: &ConsoleOptions<'_>,
+    order: (&JobSelection<'_>, Wanted),
+    restore: &mut Restore<WatchedDrive<'_, '_, HostDrive<'_>>, LeavingSink<'_, '_>>,
+    out: &mut WatchedSession<'_, '_, A>,
+) -> io::Result<u8>
+    requires drives { AreDrives restore.old.drives.items }
+{
+    let (rt, gauge) = watch;
+    let is_warned = tell_chosen(rt, order.0, given.volumes)?;
+    let input = input_of(watch, order.0, &given.marks, &mut out.answers)?;
+    let run = run_session(threads, restore, order, input, out);
     gauge.clear();
     name_others(rt, gauge, given, &run)?;
     let failed = left_out(&restore.sink);
     let ending = console_ending(rt.alloc(), &run, is_warned, failed)?;
-    let told = told_by(&out);
+    let told = told_by(out);
     let status = report(rt, gauge, given, (&told, failed, None), &run, &ending)?;
     end_file(rt, gauge, given.manifest, &mut out.manifest, status)
 }
@@ -611,16 +630,35 @@ fn restore_onto<'r, T: Channel + Drop, A: TextOutput + Drop>(
     let (rt, gauge) = watch;
     let (jobs, restore) = setup;
     let mut restore = with_watched_sink(with_watched_drives(restore, gauge)?, gauge);
-    let asked = jobs.selection(rt.alloc());
-    let is_warned = tell_chosen(rt, &asked, given.volumes)?;
     let mut out = watched_outputs(rt, gauge, outputs)?;
-    let input = input_of((rt, gauge), &asked, &given.marks, &mut out.answers)?;
+    let asked = jobs.selection(rt.alloc());
     let order = (&asked, jobs.wanted);
-    let stream = console_stream(threads, order, &mut restore, input, &mut out);
+    session_onto(threads, watch, given, order, &mut restore, &mut out)
+}
+
+/// Runs a session into the tar stream of a restore, and reports its end. Returns the exit status.
+fn session_onto<T: Channel + Drop, A: TextOutput + Drop>(
+    threads: &(impl Threads + Wait + Sync),
+    watch: (&HostRuntime, &Gauge<'_>),
+    given: &ConsoleOptions<'_>,
+    order: (&JobSelection<'_>, Wanted),
+    restore: &mut Restore<
+        WatchedDrive<'_, '_, HostDrive<'_>>,
+        WatchedSink<'_, '_, TarSink<BufWriter<T>>>,
+    >,
+    out: &mut WatchedSession<'_, '_, A>,
+) -> io::Result<u8>
+    requires drives { AreDrives restore.old.drives.items }
+    requires sink { IsSome restore.old.sink }
+{
+    let (rt, gauge) = watch;
+    let is_warned = tell_chosen(rt, order.0, given.volumes)?;
+    let input = input_of(watch, order.0, &given.marks, &mut out.answers)?;
+    let stream = console_stream(threads, order, restore, input, out);
     gauge.clear();
     let mut ending = console_ending(rt.alloc(), &stream.run, is_warned, &[])?;
     add_tar_end(&mut ending, stream.end)?;
-    let told = told_by(&out);
+    let told = told_by(out);
     let status = report(
         rt,
         gauge,
