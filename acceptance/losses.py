@@ -23,8 +23,8 @@ line. So a row that comes before the sync of a volume, and a name that is not sy
 file and folder of the manifest, and without `--sync` nothing is synced there; `extract --tar FILE` leaves each entry and the end of the
 stream, `--log FILE` each line, and `--manifest FILE` of `console` and `restore` the manifest, if the names of these files are there. Then
 `extract --sync --into` is cut at drawn calls: each file of a line `put` in the log is whole, and `--resume` makes the folder whole. It is
-also killed at these calls, and goes on by `--resume` without a loss: then a loss of all that was not synced in both runs leaves the whole
-folder.
+also killed at these calls, and after it made the first folder and the last one, and goes on by `--resume` without a loss: then a loss of
+all that was not synced in both runs leaves the whole folder.
 
 `--seed` draws other jobs and moments, and `--moments` says how many. The status is 1 if something differs.
 """
@@ -467,6 +467,16 @@ def check_killed(rows, given, folder, name, call):
     shutil.rmtree(folder)
 
 
+def check_folders(rows, given, folder):
+    """Kills a restore after it made the first folder, and the last one, before their names are synced."""
+    write_files(folder / "plain")
+    words = extract_words(folder / "plain", "--sync", "--into", folder / "plain" / "into")
+    calls = recorded(given, words, str(folder / "plain"))[1]
+    made = [number for number, call in enumerate(calls, 1) if call[0] == "folder"]
+    for number in (made[0], made[-1]):
+        check_killed(rows, given, folder / f"made-{number}", f"before call {number + 1}, which syncs a folder's name", number + 1)
+
+
 def check_cuts(rows, given, folder):
     """Cuts the power of a restore at drawn calls, and kills one there. Threads write side by side, so the same number may be that of
     another call. Returns the numbers of files that the log named."""
@@ -491,6 +501,7 @@ def deliveries(given, folder):
         check_into(rows, given, name, words, folder / "extract" / "into", b"", (0, manifest, b""), delivery(manifest)[0])
     check_console(rows, given, folder / "console")
     check_files(rows, given, folder / "extract", manifest)
+    check_folders(rows, given, folder)
     print(f"deliveries: {rows.count} rows: {'as expected' if not rows.failed else f'{rows.failed} differ'}", flush=True)
     cuts = Rows()
     named = check_cuts(cuts, given, folder)
