@@ -505,10 +505,10 @@ pub(crate) fn expect(gauge: &Gauge<'_>, bootstrap: Option<&Bootstrap>) {
 
 /// Restores into a folder, or only writes the manifest if there is none. The manifest goes to this
 /// output.
-fn extract_into<M: TextOutput + Drop>(
-    rt: &HostRuntime,
+fn extract_into<'r, M: TextOutput + Drop>(
+    rt: &'r HostRuntime,
     threads: &(impl Threads + Wait + Sync),
-    gauge: &Gauge<'_>,
+    gauge: &'r Gauge<'r>,
     given: &ExtractOptions<'_>,
     manifest: M,
 ) -> io::Result<u8>
@@ -559,10 +559,10 @@ fn run_into<M: TextOutput + Drop>(
 
 /// Restores into the tar stream of a sink. The manifest goes to this output, which is not standard
 /// output if the stream goes there.
-fn extract_onto<T: Channel + Drop, M: TextOutput + Drop>(
-    rt: &HostRuntime,
+fn extract_onto<'r, T: Channel + Drop, M: TextOutput + Drop>(
+    rt: &'r HostRuntime,
     threads: &(impl Threads + Wait + Sync),
-    gauge: &Gauge<'_>,
+    gauge: &'r Gauge<'r>,
     given: &ExtractOptions<'_>,
     sink: TarSink<BufWriter<T>>,
     manifest: M,
