@@ -7,7 +7,7 @@ ghost use Rattle.br_cli.specs.Explaining.{number_status};
 use br_cli_common::{
     BAD_COMMAND, CLEAN, Refusal, explain, push_refusals, refusals_below_50, refusals_from_50,
 };
-use br_engine::{Flush, show};
+use br_sink::{Flush, show};
 use std::alloc::Global;
 use std::io;
 

@@ -26,9 +26,9 @@ use br_cli_target::{
     with_watched_sink,
 };
 use br_engine::{
-    ExtractFault, Extracted, Flush, ReadBootstrap, Restore, RestoreEnd, RestoreOrder, read_text,
+    ExtractFault, Extracted, ReadBootstrap, Restore, RestoreEnd, RestoreOrder, read_text,
 };
-use br_sink::Sink;
+use br_sink::{Flush, Sink};
 use br_sink_folder::FolderFault;
 use br_sink_tar::TarSink;
 use br_types::{Gaps, Path, Start, Wanted};

@@ -4,7 +4,8 @@ ghost use Rattle.br_cli.specs.MemoryScriptEnding.{IsStatus, IsStatusOf, KeepsSta
 
 use br_cli_common::{CLEAN, REFUSED};
 use br_console::{ScriptEnd, ScriptFault, run_script};
-use br_engine::{Budget, Flush};
+use br_engine::Budget;
+use br_sink::Flush;
 use std::io::{self, BufRead, BufReader, BufWriter, ErrorKind};
 use std::sync::Wait;
 use std::thread::Threads;

@@ -5,8 +5,8 @@ ghost use Rattle.br_cli.specs.MemoryScriptEnding.{IsStatus};
 ghost use Rattle.br_cli.specs.Migrating.{migrated_line, migrated_status};
 
 use br_cli_common::{CLEAN, refuse_start};
-use br_engine::{Flush, show};
 use br_keeper::{Catalogue, CatalogueFault};
+use br_sink::{Flush, show};
 use br_types::push_number;
 use std::alloc::AllocError;
 use std::{fs, io};

@@ -32,10 +32,11 @@ use br_cli_target::{
     tar_output, tell_others, tell_outcomes, with_watched_drives, with_watched_sink,
 };
 use br_console::{ConsoleFault, ConsoleRun, End, LineVerdict};
-use br_engine::{Flush, Restore, RestoreEnd};
+use br_engine::{Restore, RestoreEnd};
 use br_history::History;
 use br_keeper::{Catalogue, CatalogueFault};
 use br_plan::{JobSelection, Request, RequestFault, read_request};
+use br_sink::Flush;
 use br_sink_folder::FolderFault;
 use br_sink_tar::TarSink;
 use br_types::{Path, Start, Wanted};
@@ -703,27 +704,13 @@ pub fn restore_marked<C: Catalogue>(
     match gauge_of(rt, given.volumes, given.target, given.progress, given.log) {
         Ok(gauge) => {
             let gauge = gauge.with_words(matches!(given.marks, Marks::Patterns(_)));
-            let status = restore_watched(rt, threads, catalogue, &gauge, given)?;
+            let status = match manifest_at(rt, given.manifest) {
+                Ok(file) => restore_told(rt, threads, catalogue, &gauge, given, file)?,
+                Err(error) => refuse_manifest(rt, &gauge, given.manifest, error)?,
+            };
             gauge.end_log(status)
         }
         Err(error) => refuse_log(rt, given.log, error),
-    }
-}
-
-/// Restores as `restore_marked`, with what watches the restore. The file of the manifest is opened
-/// first.
-fn restore_watched<C: Catalogue>(
-    rt: &HostRuntime,
-    threads: &(impl Threads + Wait + Sync),
-    catalogue: &C,
-    gauge: &Gauge<'_>,
-    given: &ConsoleOptions<'_>,
-) -> io::Result<u8>
-    requires few { AreFew given.now.drives }
-{
-    match manifest_at(rt, given.manifest) {
-        Ok(file) => restore_told(rt, threads, catalogue, gauge, given, file),
-        Err(error) => refuse_manifest(rt, gauge, given.manifest, error),
     }
 }
 

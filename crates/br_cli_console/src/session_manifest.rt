@@ -6,9 +6,9 @@ ghost use Rattle.br_cli_console.specs.ConsoleTasks.{FinishesBy, RunsBy, RunsOn, 
 use br_cli_progress::{Gauge, WatchedWriter};
 use br_cli_target::{ToldOutcomes, end_manifest, open_manifest};
 use br_console::{ConsoleFault, ConsoleRun, LineVerdict, finish, prepare, run_console};
-use br_engine::{Flush, Restore};
+use br_engine::Restore;
 use br_plan::{JobSelection, Plan};
-use br_sink::Sink;
+use br_sink::{Flush, Sink};
 use br_types::Wanted;
 use br_volume::Drive;
 use std::fs::File;

@@ -12,11 +12,11 @@ use crate::time_zone::SystemZones;
 use br_cli_common::{
     CLEAN, Clock, FileRows, JobsOptions, REFUSED, is_shown, refuse_start, show_lines,
 };
-use br_engine::show;
 use br_history::History;
 use br_jobs::{Filter, Zones, list_jobs, marked_lines};
 use br_keeper::{Catalogue, CatalogueFault};
 use br_plan::{BadMoment, read_moment};
+use br_sink::show;
 use std::io::{self, IsTerminal};
 
 /// Reads the moment before which jobs are listed, if one is given.

@@ -3,7 +3,7 @@ ghost use Rattle.std.specs.Prelude.{◌≡◌, ◌<◌, length, cond, None, IfSo
 ghost use Rattle.std.specs.Io.KnownBytes.{Keeps};
 
 use crate::local_command::without_feed;
-use br_engine::Flush;
+use br_sink::Flush;
 use br_types::{push_escaped, unescape};
 use std::alloc::{AllocError, Global};
 use std::io::{self, Write};

@@ -3,7 +3,7 @@ ghost use Rattle.std.specs.Prelude.{◌≡◌, OnOk};
 ghost use Rattle.std.specs.Io.KnownBytes.{Keeps};
 
 use crate::gauge::Gauge;
-use br_engine::Flush;
+use br_sink::Flush;
 use std::io::{self, Write};
 
 /// A writer that writes as another one does, and removes the gauge's line from the terminal before.

@@ -6,7 +6,7 @@ use crate::gauge::Gauge;
 use crate::passed_faults::Faults;
 use crate::passed_lines::PassedLines;
 use br_bsr::{Bootstrap, read_bootstrap};
-use br_engine::Flush;
+use br_sink::Flush;
 use br_types::FileKey;
 use std::io::{self, Write};
 

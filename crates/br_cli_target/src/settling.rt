@@ -2,7 +2,7 @@
 ghost use Rattle.std.specs.Prelude.{Bool, IfOk, true, false};
 ghost use Rattle.std.specs.Io.KnownBytes.{Keeps};
 
-use br_engine::Flush;
+use br_sink::Flush;
 use std::fs::File;
 use std::io::{self, BufWriter, Printer, Stderr, Write};
 

@@ -7,8 +7,9 @@ ghost use Rattle.br_console.specs.Talking.{Converses, LeavesOver, ReadsLine, tal
 use crate::console_fault::ConsoleFault;
 use crate::ending::{LineVerdict, SessionEnd, SessionOutcome};
 use crate::reply::say;
-use br_engine::{Flush, Turns, show};
+use br_engine::Turns;
 use br_mark::Console;
+use br_sink::{Flush, show};
 use std::alloc::Global;
 use std::io::BufRead;
 

@@ -8,9 +8,8 @@ ghost use Rattle.br_engine.specs.Outputs.{are_files};
 ghost use Rattle.br_engine.specs.Extracting.{WritesNothing};
 
 use crate::fault::ExtractFault;
-use crate::flushing::Flush;
 use br_join::Outcome;
-use br_sink::{manifest_room, write_manifest as write_parts};
+use br_sink::{Flush, manifest_room, write_manifest as write_parts};
 use br_types::FileKey;
 use std::alloc::Global;
 
