@@ -399,11 +399,11 @@ def scripts(checks, folder):
     checks.check("no folder of volumes", run(checks, words, JOB % (2, b"/x", b"W") + b"end\n"), (1, b"refused 44\n", b""))
 
 
-def block_of(number, path, data):
-    """A block of session 1 at 100 with the whole records of a file."""
+def block_of(number, path, data, session=1):
+    """A block of a session at 100 with the whole records of a file."""
     records = [(number, 1, b"%d 3 /%s\0%s\0\0" % (number, path.encode(), STAT)), (number, 2, data)]
     text = b"".join(struct.pack(">iiI", index, stream, len(it)) + it for index, stream, it in records)
-    return struct.pack(">III4sII", 0, 24 + len(text), number - 1, b"BB02", 1, 100) + text
+    return struct.pack(">III4sII", 0, 24 + len(text), number - 1, b"BB02", session, 100) + text
 
 
 def many(checks, folder):

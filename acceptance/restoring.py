@@ -12,6 +12,7 @@ expected.
 import argparse
 import hashlib
 import os
+import random
 import re
 import shutil
 import subprocess
@@ -26,7 +27,7 @@ import sampled
 from cases import unpack
 from commands import ACROSS, BOTH, BOTH_TAR, CONFLICT, COPIES, DIGEST, GROUPS, HELLO, INDEXES, NO_TEXT, OLD_LINE, ONLY_A, PLAIN, TWO
 from commands import TWO_VOLUMES, WARNED, WORLD, Place, block_of, both, line_of, run, whole_block
-from common import CASES, ORDER_SQL, PROGRAM, SETS, VERSION_1_SQL, Checks
+from common import CASES, ORDER_SQL, PROGRAM, SETS, VERSION_1_SQL, Checks, escaped
 from delivered import tree_of
 from resuming import marks
 from stored import memory
@@ -203,6 +204,120 @@ def cut(checks, folder):
     files[at + "f2"] = b"incremental, the newest\n"
     told = b"5 of 7 files were put, older copies left out: 2\n"
     check(checks, "and a whole copy of it", place, by_bootstrap(place, text), 0, told, files, b"".join(lines))
+
+
+def group(volume, indexes=None, session=b"1"):
+    """Returns a group of a bootstrap that names one session."""
+    lines = [b"Volume=" + volume, b"VolSessionId=" + session, b"VolSessionTime=100", *([b"FileIndex=" + indexes] if indexes else [])]
+    return b"".join(line + b"\n" for line in lines)
+
+
+def volume_of(*numbers):
+    return b"".join(block_of(number, str(number), b"%d" % number) for number in numbers)
+
+
+THREE, EIGHT = {"V": volume_of(1, 2), "W": volume_of(3)}, {"V": volume_of(*range(1, 9))}
+
+# Restores with volumes that are not there: those that are, the bootstrap, the lines after those of the lost volumes, which the names stand
+# for, and the files that come back.
+LOST = [
+    ("a volume with files of its own", THREE, "W", group(b"V", b"1-2") + group(b"W", b"3"), b"missing 1 100 3 W\n", [1, 2]),
+    ("the first volume", THREE, "V", group(b"V", b"1-2") + group(b"W", b"3"), b"missing 1 100 1-2 V\n", [3]),
+    ("a volume with a part of a file", THREE, "W", group(b"V", b"1-2") + group(b"W", b"2-3"), b"missing 1 100 2-3 W\n", [1]),
+    (
+        "one that is asked for three times",
+        THREE,
+        "W",
+        group(b"W", b"2") + group(b"V") + group(b"W", b"3,2"),
+        b"missing 1 100 2 W\nmissing 1 100 3 W\nmissing 1 100 2 W\n",
+        [1],
+    ),
+    ("files of another session", THREE, "W", group(b"V", b"1-2") + group(b"W", b"1-3", b"2"), b"missing 2 100 1-3 W\n", [1, 2]),
+    ("each file of a session", THREE, "W", group(b"V", b"1-2") + group(b"W"), b"", []),
+    ("each index up to the greatest", THREE, "W", group(b"V", b"1-2") + group(b"W", b"2-2147483647"), b"", [1]),
+    (
+        "a range with files on both sides",
+        EIGHT,
+        "W",
+        group(b"V", b"1-8") + group(b"W", b"3-4,6"),
+        b"missing 1 100 3-4 W\nmissing 1 100 6 W\n",
+        [1, 2, 5, 7, 8],
+    ),
+    (
+        "two volumes",
+        EIGHT,
+        "WX",
+        group(b"W", b"1") + group(b"V") + group(b"X", b"8"),
+        b"missing 1 100 1 W\nmissing 1 100 8 X\n",
+        [*range(2, 8)],
+    ),
+]
+
+
+def lost(checks, folder):
+    """Volumes that are not there: the files of which they may have a part do not come back, and all others do. The groups name sessions."""
+    for name, volumes, gone, text, told, numbers in LOST:
+        place = Place(folder, {it: data for it, data in volumes.items() if it not in gone})
+        front = b"".join(b"lost %s\n" % it + NO_VOLUME % it for it in (it.encode() for it in gone))
+        end = b"%d of %d files were put\n" % (len(numbers), len(numbers)) if numbers else b""
+        check_lost(checks, name, place, text, front + told + end, numbers)
+    place = Place(folder, {"V": volume_of(1)})
+    (place.volumes / "W").mkdir()
+    told = b"lost W\n  VOLUMES/W is a folder, and has to be a file. " + MOVE + b"missing 1 100 2 W\n" + ONE_PUT
+    text = group(b"V", b"1-2") + group(b"W", b"2")
+    check_lost(checks, "a folder in the place of a volume", place, text, told, [1])
+    (place.volumes / "W").rmdir()
+    log = place.folder / "log"
+    told = told_in(place, b"lost W\n" + NO_VOLUME % b"W" + b"missing 1 100 2 W\n" + ONE_PUT)
+    found = run(checks, [*by_bootstrap(place, text), "--into", place.into, "--log", log])
+    logged = told.replace(b"missing 1 100 2 W\n", b"put /1\nmissing 1 100 2 W\n")
+    checks.check("a volume that is lost, in a log", (found, content(log)), ((1, b"", told), logged))
+    tar = place.folder / "x.tar"
+    found = run(checks, [*by_bootstrap(place, text), "--tar", tar])
+    names = subprocess.run(["tar", "-tf", tar], capture_output=True, timeout=60).stdout
+    checks.check("and of a stream", (found, names), ((1, b"", told), b"1\n"))
+    given = by_bootstrap(place, text)
+    checks.check("`extract` refuses it", run(checks, ["extract", *given[1:]]), (1, b"", b"refused 14 W 0\n"))
+    (place.volumes / "V").unlink()
+    told = b"refused 14 V 0\n" + NO_VOLUME % b"V" + NO_VOLUME % b"W"
+    check(checks, "all volumes", place, given, 1, told, {"1": b"1"}, b"")
+
+
+def check_lost(checks, name, place, text, told, numbers):
+    """Restores the files with these numbers, of a bootstrap of which a volume is lost."""
+    lines = [line_of(b"1 100", it, b"/%d" % it, 5, b"1 " + hashlib.md5(b"%d" % it).hexdigest().encode()) for it in numbers]
+    manifest = b"".join(lines) + b"total %d 0 0\n" % len(lines)
+    check(checks, f"lost: {name}", place, by_bootstrap(place, text), 1, told, {str(it): b"%d" % it for it in numbers}, manifest)
+
+
+def drawn_lost(checks, folder):
+    """Drawn bootstraps of which volumes are lost, with what a plain set gives."""
+    draw = random.Random(61)
+    files = {(session, number) for session in (1, 2) for number in range(1, 31)}
+    volume = b"".join(block_of(number, f"{session}.{number}", b"%d" % number, session) for session, number in sorted(files))
+    for count in range(150):
+        groups = []
+        for _ in range(draw.randint(2, 9)):
+            ranges = [sorted(draw.choices(range(1, 36), k=2)) for _ in range(draw.randint(0, 4))]
+            groups.append((draw.choice("VVW"), draw.randint(1, 2), ranges))
+        groups += [("V", 1, [[1, 30]]), ("W", 1, [[7, 7]])]
+        draw.shuffle(groups)
+        asked = {name: {it for it in files if any(has(one, it) for one in groups if one[0] == name)} for name in "VW"}
+        text = b"".join(group(it.encode(), b",".join(b"%d-%d" % (*pair,) for pair in ranges), b"%d" % number) for it, number, ranges in groups)
+        place = Place(folder, {"V": volume})
+        manifest = place.folder / "manifest"
+        status, printed, told = run(checks, [*by_bootstrap(place, text), "--into", place.into, "--manifest", manifest])
+        left = sorted(asked["V"] - asked["W"])
+        lines = [line.split(b" ") for line in (content(manifest) or b"").splitlines() if line.startswith(b"F ")]
+        found = status, printed, told.splitlines()[0], sorted((int(line[1]), int(line[3])) for line in lines)
+        checks.check(f"drawn groups {count}", found, (1, b"", b"lost W", left))
+        checks.check(f"drawn groups {count}, files", set(place.files()), {f"{session}.{number}" for session, number in left})
+
+
+def has(asked, file):
+    """Returns whether a drawn group asks for a file."""
+    _, session, ranges = asked
+    return session == file[0] and (not ranges or any(low <= file[1] <= high for low, high in ranges))
 
 
 def logs(checks, folder):
@@ -601,9 +716,66 @@ def director(checks, folder):
         jobs = {"db": place / "jobs.db", "client": client, "fileset": fileset, "volumes": volumes}
         for paths, lines in names:
             session_beside(checks, f"{client}, {' '.join(paths)}", place, jobs, paths, lines)
+        without_each(checks, client, place, jobs)
 
 
-PARTS = (bootstraps, empty, others, cut, logs, manifests, streams, closed, patterns, refusals, faults, terminals, cases, order, director)
+def groups_of(text):
+    """Returns the groups of a canonical bootstrap: of each its keywords with their values."""
+    groups = []
+    for line in text.splitlines():
+        word, _, value = line.partition(b"=")
+        if word == b"Volume":
+            groups.append({})
+        groups[-1].setdefault(word, []).append(value.strip(b'"'))
+    return groups
+
+
+def asked_by(groups):
+    """Returns session and indexes of the files that groups ask for, as lines of a manifest have them."""
+    asked = set()
+    for it in groups:
+        for pair in it[b"FileIndex"]:
+            low, _, high = pair.partition(b"-")
+            session = b"%s %s" % (it[b"VolSessionId"][0], it[b"VolSessionTime"][0])
+            asked |= {b"%s %d" % (session, number) for number in range(int(low), int(high or low) + 1)}
+    return asked
+
+
+def without_each(checks, client, place, jobs):
+    """Restores all files of the director's sample by a bootstrap, whole and without each of its volumes."""
+    moment = ["--before", "9999-12-31 23:59:59"]
+    printed = run(checks, [*by_jobs("console", jobs), *moment], b"mark *\ndone\n")[1]
+    text = b"".join(re.findall(rb"^[A-Z][A-Za-z]+=.*\n", printed, re.MULTILINE))
+    bsr, manifest = place / f"{client}.bsr", place / "manifest"
+    bsr.write_bytes(text)
+    groups = groups_of(text)
+
+    def restored(name):
+        into = place / f"{client} {name}"
+        into.mkdir()
+        given = ["restore", "--bsr", bsr, "--volumes", jobs["volumes"], "--into", into, "--manifest", manifest]
+        status, _, told = run(checks, given)
+        lines = [line for line in manifest.read_bytes().splitlines() if line.startswith((b"F ", b"X "))]
+        return status, told.splitlines(), lines, {os.fsencode("/" + str(it.relative_to(into))) for it in into.rglob("*") if it.is_file()}
+
+    _, _, whole, files = restored("whole")
+    checks.check(f"{client}: by a bootstrap of several volumes", len({it[b"Volume"][0] for it in groups}) > 1, True)
+    for volume in sorted({it[b"Volume"][0] for it in groups}):
+        file = Path(jobs["volumes"]) / os.fsdecode(volume)
+        file.rename(place / "away")
+        gone = asked_by([it for it in groups if it[b"Volume"][0] == volume])
+        left = [line for line in whole if b" ".join(line.split(b" ")[1:4]) not in gone]
+        paths = {line.split(b" ")[5] for line in left}
+        found = restored(volume.decode())
+        checks.check(f"{client}: without {volume.decode()}", (found[0], found[1][0], found[2]), (1, b"lost " + volume, left))
+        missing = [line.split(b" ") for line in found[1] if line.startswith(b"missing ")]
+        named = asked_by([{b"VolSessionId": it[1:2], b"VolSessionTime": it[2:3], b"FileIndex": it[3:4]} for it in missing])
+        checks.check(f"{client}: without {volume.decode()}, what is missing", named, gone)
+        checks.check(f"{client}: without {volume.decode()}, the files", found[3], {it for it in files if escaped(it).encode() in paths})
+        (place / "away").rename(file)
+
+
+PARTS = (bootstraps, empty, others, cut, lost, drawn_lost, logs, manifests, streams, closed, patterns, refusals, faults, terminals, cases, order, director)
 
 
 def main():

@@ -1,3 +1,5 @@
-pub mod VolumesLaws
 mod TellLaws
 mod ExtractLaws
+mod SpanLaws
+mod IndexLaws
+mod NarrowLaws

@@ -1,5 +1,5 @@
 -- The end of a run that extracts files.
-use Rattle.std.specs.Prelude.{ℕ, Bool, true, false, ◌&&◌, ◌||◌, List, ◌++◌, Option, Some, None, Result, Ok, Err, if◌then◌else◌}
+use Rattle.std.specs.Prelude.{ℕ, max, Bool, true, false, not, ◌&&◌, ◌||◌, is_some, List, ◌++◌, Option, Some, None, Result, Ok, Err, if◌then◌else◌}
 use Rattle.br_check.specs.Findings.{empty_line}
 use Rattle.std.specs.Borrow.{Bor}
 use Rattle.br_model.specs.Bootstrap.{Group}
@@ -20,6 +20,7 @@ use Rattle.br_cli_target.specs.declared.target_tar.PutExtent.TheVariants.{All, P
 use Rattle.br_cli_target.specs.declared.target_tar.TarEnd.{TarEnd}
 use Rattle.br_cli_target.specs.Nothing.{asks_nothing}
 use Rattle.br_cli_target.specs.TarEnding.{tar_status}
+use Rattle.br_cli.specs.declared.extract_command.LeftOut.{LeftOut}
 use Rattle.br_types.specs.declared.wanted.Gaps.{Gaps}
 use Rattle.br_types.specs.declared.wanted.Gaps.TheVariants.{Reported, Unreported}
 
@@ -60,15 +61,28 @@ abbrev pub found_none : Printed → Result Extracted ExtractFault → Bool
 found_none Manifest run = false
 found_none (Words file) run = gives_nothing run
 
--- whether there is nothing to show: nothing was asked for, or `restore` gave no file and none is
--- missing
-abbrev pub shows_nothing : ExtractOptions → Option (Bor (List Group)) → Result Extracted ExtractFault → Bool
-shows_nothing given bootstrap run = asks_in given.wanted.gaps bootstrap || found_none given.printed run
+-- whether there is nothing to show: no volume is lost, and nothing was asked for, or `restore` gave
+-- no file and none is missing
+abbrev pub shows_nothing : ExtractOptions → Option (Bor (List Group)) → Result Extracted ExtractFault → Bool → Bool
+shows_nothing given bootstrap run is_lost = not is_lost && (asks_in given.wanted.gaps bootstrap || found_none given.printed run)
+
+-- at least 1 if a volume is lost
+abbrev pub lost_status : Bool → ℕ → ℕ
+lost_status true status = max status 1
+lost_status false status = status
 
 -- the same with the end of the tar stream, if there is one: 1 if it could not be written
-abbrev pub told_status : Bool → Result Extracted ExtractFault → List (List ℕ) → Option TarEnd → ℕ
-told_status asks_nothing run failed None = run_status asks_nothing run failed
-told_status asks_nothing run failed (Some end) = tar_status (run_status asks_nothing run failed) end
+abbrev pub stream_status : Option TarEnd → ℕ → ℕ
+stream_status None status = status
+stream_status (Some end) status = tar_status status end
+
+-- the status of a run, of what is lost, and of the stream
+abbrev pub told_status : Bool → Result Extracted ExtractFault → LeftOut → ℕ
+told_status asks_nothing run left = stream_status left.end (lost_status (is_some left.lost) (run_status asks_nothing run left.failed.now))
+
+-- the same, if there may be nothing to show
+abbrev pub report_status : ExtractOptions → Option (Bor (List Group)) → Result Extracted ExtractFault → LeftOut → ℕ
+report_status given bootstrap run left = told_status (shows_nothing given bootstrap run (is_some left.lost)) run left
 
 -- the number of files that a restore with this end put into its sink
 abbrev pub extent_by : RestoreEnd → PutExtent

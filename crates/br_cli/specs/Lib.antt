@@ -1,9 +1,10 @@
-pub mod Migrating
 pub mod ExtractEnding
 pub mod ExtractStarting
+pub mod GroupSessions
+pub mod LostFiles
+pub mod LeftIndexes
+pub mod NarrowedBootstrap
+pub mod LostVolumes
 pub mod ExtractTasks
 pub mod CheckCommand
 pub mod Explaining
-pub mod MemoryScriptEnding
-pub mod FolderVolumes
-pub mod Serving

@@ -1,18 +1,20 @@
 //! The command `extract`.
-ghost use Rattle.std.specs.Prelude.{◌≡◌, false, length, option_map, None, Some, IfOk, IfSome, IsSome};
+ghost use Rattle.std.specs.Prelude.{◌≡◌, false, is_some, length, option_map, None, Some, IfOk, IfSome, IsSome, OnOk};
 ghost use Rattle.br_cli_common.specs.Options.{AreFew};
 ghost use Rattle.br_pool.specs.Pool.{AreDrives};
 ghost use Rattle.br_volume.specs.HostDrives.{AreOver};
 ghost use Rattle.br_cli_target.specs.AskedTarget.{folder_asked, stream_asked};
 ghost use Rattle.br_cli.specs.ExtractEnding.{asks_in, done_status, extent, gives_nothing, run_refusal, run_status};
-ghost use Rattle.br_cli.specs.ExtractEnding.{shows_nothing, told_status};
+ghost use Rattle.br_cli.specs.ExtractEnding.{lost_status, report_status, shows_nothing, told_status};
 ghost use Rattle.br_cli.specs.ExtractStarting.{start_status};
 ghost use Rattle.br_cli_target.specs.TarEnding.{IsShown};
 ghost use Rattle.br_cli_target.specs.TextPlaces.{manifest_place};
 ghost use Rattle.br_engine.specs.Restores.{TellsDelivered, TellsStop, change};
 ghost use Rattle.br_cli.specs.ExtractTasks.{AreWantedTo, ExtractsTo, StreamsTo};
+ghost use Rattle.br_cli.specs.LostVolumes.{IsWithoutLost};
 ghost use Rattle.br_cli_common.specs.declared.options.Printed.TheVariants.{Manifest};
 
+use crate::lost_volumes::narrow;
 use br_bsr::{Bootstrap, BsrFault};
 use br_check::push_empty;
 use br_cli_common::{BAD_STREAM, CLEAN, ExtractOptions, Printed, REFUSED, Target, refuse_start};
@@ -102,34 +104,58 @@ fn gives_nothing(run: &Result<Extracted, ExtractFault>) -> bool
     }
 }
 
-/// Returns true if there is nothing to show: nothing was asked for, or `restore`, which prints words,
-/// gave no file, and none is missing.
+/// What is not put of what was asked for, and the end of the stream.
+#[derive(Drop)]
+struct LeftOut<'a> {
+    /// The paths of the files at which the sink failed.
+    failed: &'a [Path],
+    /// The lines of the indexes that are lost with their volumes, if volumes are.
+    lost: Option<&'a [u8]>,
+    /// The end of the tar stream, if there is one.
+    end: Option<TarEnd>,
+}
+
+/// Returns true if there is nothing to show: no volume is lost, and nothing was asked for, or
+/// `restore`, which prints words, gave no file, and none is missing.
 fn shows_nothing(
     given: &ExtractOptions<'_>,
     told: &ToldOutcomes<'_>,
     run: &Result<Extracted, ExtractFault>,
+    left: &LeftOut<'_>,
 ) -> bool
-    ensures { result ≡ shows_nothing given.now told.now.bootstrap run.now }
+    ensures { result ≡ shows_nothing given.now told.now.bootstrap run.now (is_some left.now.lost) }
 {
     let found_none = match given.printed {
         Printed::Manifest => false,
         Printed::Words(_) => gives_nothing(run),
     };
-    is_nothing_asked(given.wanted.gaps, told) || found_none
+    left.lost.is_none() && (is_nothing_asked(given.wanted.gaps, told) || found_none)
 }
 
-/// Returns the exit status and the lines of a run and of its tar stream, if there is one.
+/// Adds to an ending the lines of what is lost, if volumes are.
+fn add_lost(ending: &mut Ending, lost: Option<&[u8]>) -> Result<(), AllocError>
+    ensures { OnOk result (ending.new.status ≡ lost_status (is_some lost.entry) ending.old.status) }
+{
+    if let Some(lines) = lost {
+        ending.status = ending.status.max(REFUSED);
+        ending.refusal.extend_from_slice(lines)?;
+    }
+    Ok(())
+}
+
+/// Returns the exit status and the lines of a run, of what is lost, and of the tar stream, if there is
+/// one.
 fn whole_ending(
     alloc: Global,
     asks_nothing: bool,
     run: &Result<Extracted, ExtractFault>,
-    failed: &[Path],
-    end: Option<TarEnd>,
+    left: &LeftOut<'_>,
 ) -> Result<Ending, AllocError>
-    ensures { IfOk result (λ ending. ending.status ≡ told_status asks_nothing run.now failed.now end) }
+    ensures { IfOk result (λ ending. ending.status ≡ told_status asks_nothing run.now left.now) }
 {
-    let mut ending = extract_ending(alloc, asks_nothing, run, failed)?;
-    let Some(end) = end else {
+    let mut ending = extract_ending(alloc, asks_nothing, run, left.failed)?;
+    add_lost(&mut ending, left.lost)?;
+    let Some(end) = left.end else {
         return Ok(ending);
     };
     add_tar_end(&mut ending, end)?;
@@ -194,23 +220,21 @@ fn report(
     given: &ExtractOptions<'_>,
     told: &ToldOutcomes<'_>,
     run: &Result<Extracted, ExtractFault>,
-    left: (&[Path], Option<TarEnd>),
+    left: &LeftOut<'_>,
 ) -> io::Result<u8>
-    ensures status { IfOk result (λ status.
-        status ≡ told_status (shows_nothing given.now told.now.bootstrap run.now) run.now left.entry.0.now left.entry.1) }
+    ensures status { IfOk result (λ status. status ≡ report_status given.now told.now.bootstrap run.now left.now) }
 {
-    let (failed, end) = left;
-    let is_nothing = shows_nothing(given, told, run);
-    let ending = whole_ending(rt.alloc(), is_nothing, run, failed, end)?;
+    let is_nothing = shows_nothing(given, told, run, left);
+    let ending = whole_ending(rt.alloc(), is_nothing, run, left)?;
     if let Err(fault) = run {
         let name = manifest_file(given).unwrap_or("standard output");
         tell_stream(rt, gauge, name, fault)?;
     }
     gauge.log_refusals(&ending.refusal);
     let status = ending.print(rt)?;
-    say_unended(rt, gauge, given.target, end)?;
+    say_unended(rt, gauge, given.target, left.end)?;
     match run {
-        Ok(done) => say_done(rt, gauge, given.target, done, failed)?,
+        Ok(done) => say_done(rt, gauge, given.target, done, left.failed)?,
         Err(ExtractFault::Piece(fault)) if lacks_volumes(fault) => {
             say_volumes(rt, gauge, given.volumes, told)?
         }
@@ -231,6 +255,9 @@ fn report(
 pub(crate) struct BootstrapFile<'p> {
     path: &'p str,
     pub(crate) read: Result<ReadBootstrap, BsrFault>,
+    /// The lines of the indexes that are lost with their volumes, if the bootstrap is narrowed to
+    /// what is left.
+    lost: Option<Vec<u8>>,
 }
 
 /// Returns the text of a bootstrap, as far as it can be one: of standard input for `-`, else of the
@@ -253,13 +280,54 @@ impl<'p> BootstrapFile<'p> {
         rt: &HostRuntime,
         path: &'p str,
     ) -> Result<BootstrapFile<'p>, ExtractStartFault>
-        ensures { IfOk result (λ file. file.path.now ≡ path.entry.now) }
+        ensures path { IfOk result (λ file. file.path.now ≡ path.entry.now) }
+        ensures whole { IfOk result (λ file. file.lost ≡ None) }
     {
         let text = text_at(rt, path)?;
         Ok(BootstrapFile {
             path,
             read: ReadBootstrap::read(rt.alloc(), &text),
+            lost: None,
         })
+    }
+
+    /// Returns the bootstrap without the volumes that can't be read, if that is known of each file.
+    fn without_lost(
+        self,
+        rt: &HostRuntime,
+        gauge: &Gauge<'_>,
+        volumes: &str,
+    ) -> io::Result<BootstrapFile<'p>>
+        requires { self.lost ≡ None }
+        ensures path { IfOk result (λ file. file.path.now ≡ self.entry.path.now) }
+        ensures left { IfOk result (IsWithoutLost self.entry) }
+    {
+        let narrowed = match &self.read {
+            Ok(read) => narrow(rt, gauge, volumes, &read.bootstrap)?,
+            Err(_) => None,
+        };
+        let Some(narrowed) = narrowed else {
+            return Ok(self);
+        };
+        let read = ReadBootstrap {
+            bootstrap: narrowed.left,
+            counts: Vec::new(rt.alloc()),
+        };
+        Ok(BootstrapFile {
+            path: self.path,
+            read: Ok(read),
+            lost: Some(narrowed.missing),
+        })
+    }
+
+    /// Returns the lines of what is lost, if volumes are.
+    fn lost(&self) -> Option<&[u8]>
+        ensures { is_some result ≡ is_some self.now.lost }
+    {
+        match &self.lost {
+            Some(lines) => Some(lines),
+            None => None,
+        }
     }
 
     /// Returns the bootstrap, if the text is not refused.
@@ -338,6 +406,7 @@ pub fn set_up_extract<'g, 'r, 'p>(
     given: &ExtractOptions<'p>,
 ) -> Result<ExtractSetup<'r, 'p, LeavingSink<'g, 'r>>, ExtractStartFault>
     ensures bootstrap { IfOk result (λ setup. setup.0.bootstrap.path.now ≡ given.now.bsr.now) }
+    ensures whole { given.now.printed ≡ Manifest → IfOk result (λ setup. setup.0.bootstrap.lost ≡ None) }
     ensures wanted { IfOk result (λ setup. setup.0.wanted ≡ given.now.wanted) }
     ensures memory { IfOk result (λ setup. setup.1.budget.room ≡ given.now.memory) }
     ensures into { IfOk result (λ setup. option_map (λ s. s.inner.inner.folder.path) setup.1.sink ≡ folder_asked given.now.target) }
@@ -355,12 +424,30 @@ pub fn set_up_extract<'g, 'r, 'p>(
         given.syncs,
         into,
     )?;
-    set_up_over(rt, given, sink)
+    set_up_over(rt, gauge, given, sink)
+}
+
+/// Reads the bootstrap. If words are printed, so by `restore`, leaves out what is lost with volumes
+/// that can't be read.
+fn bootstrap_for<'p>(
+    rt: &HostRuntime,
+    gauge: &Gauge<'_>,
+    given: &ExtractOptions<'p>,
+) -> Result<BootstrapFile<'p>, ExtractStartFault>
+    ensures path { IfOk result (λ file. file.path.now ≡ given.now.bsr.now) }
+    ensures whole { given.now.printed ≡ Manifest → IfOk result (λ file. file.lost ≡ None) }
+{
+    let file = BootstrapFile::read(rt, given.bsr)?;
+    match given.printed {
+        Printed::Manifest => Ok(file),
+        Printed::Words(_) => Ok(file.without_lost(rt, gauge, given.volumes)?),
+    }
 }
 
 /// Makes the rest of what a restore needs before a drive is used, besides the sink.
 fn set_up_over<'r, 'p, S: Drop>(
     rt: &'r HostRuntime,
+    gauge: &Gauge<'_>,
     given: &ExtractOptions<'p>,
     sink: Option<S>,
 ) -> Result<ExtractSetup<'r, 'p, S>, ExtractStartFault>
@@ -368,10 +455,11 @@ fn set_up_over<'r, 'p, S: Drop>(
     ensures wanted { IfOk result (λ setup. setup.0.wanted ≡ given.now.wanted) }
     ensures memory { IfOk result (λ setup. setup.1.budget.room ≡ given.now.memory) }
     ensures sink { IfOk result (λ setup. setup.1.sink ≡ sink) }
+    ensures whole { given.now.printed ≡ Manifest → IfOk result (λ setup. setup.0.bootstrap.lost ≡ None) }
     ensures drives { IfOk result (λ setup. length setup.1.drives.items ≡ given.now.drives) }
     ensures volumes { IfOk result (λ setup. AreOver given.now.volumes.now setup.1.drives.items) }
 {
-    let bootstrap = BootstrapFile::read(rt, given.bsr)?;
+    let bootstrap = bootstrap_for(rt, gauge, given)?;
     let restore = restore_over(rt, given.volumes, given.drives, given.memory, sink)?;
     let extraction = Extraction {
         bootstrap,
@@ -551,8 +639,12 @@ fn run_into<M: TextOutput + Drop>(
     gauge.clear();
     name_others(rt, gauge, given, &run)?;
     let told = ToldOutcomes::by(writer, bootstrap);
-    let left = (left_out(&restore.sink), None);
-    let status = report(rt, gauge, given, &told, &run, left)?;
+    let left = LeftOut {
+        failed: left_out(&restore.sink),
+        lost: extraction.bootstrap.lost(),
+        end: None,
+    };
+    let status = report(rt, gauge, given, &told, &run, &left)?;
     let manifest = writer.inner.get_mut();
     end_manifest(rt, gauge, manifest_file(given), manifest, status)
 }
@@ -572,7 +664,7 @@ fn extract_onto<'r, T: Channel + Drop, M: TextOutput + Drop>(
     requires printed { M.place ≡ manifest_place given.now.printed given.now.target }
 {
     let writer = BufWriter::new(rt.alloc(), manifest)?;
-    let (extraction, restore) = match set_up_over(rt, given, Some(sink)) {
+    let (extraction, restore) = match set_up_over(rt, gauge, given, Some(sink)) {
         Ok(setup) => setup,
         Err(fault) => return refuse_told(rt, gauge, given, fault),
     };
@@ -609,8 +701,12 @@ fn run_onto<T: Channel + Drop, M: TextOutput + Drop>(
     let stream = extract_stream(threads, extraction, restore, writer);
     gauge.clear();
     let told = ToldOutcomes::by(writer, bootstrap);
-    let end = Some(stream.end);
-    let status = report(rt, gauge, given, &told, &stream.run, (&[], end))?;
+    let left = LeftOut {
+        failed: &[],
+        lost: extraction.bootstrap.lost(),
+        end: Some(stream.end),
+    };
+    let status = report(rt, gauge, given, &told, &stream.run, &left)?;
     let manifest = writer.inner.get_mut();
     end_manifest(rt, gauge, manifest_file(given), manifest, status)
 }

@@ -3,11 +3,6 @@ pub mod RunLaws
 pub mod SelectingLaws
 pub mod StandingLaws
 pub mod ChoiceLaws
-pub mod DeskLaws
-pub mod DialogueLaws
-pub mod FixedLaws
-pub mod DrivenLaws
-pub mod LineLaws
 pub mod ChoiceAloneLaws
 pub mod PathsLaws
 pub mod PathsExamples

@@ -4,17 +4,4 @@ pub mod Talking
 pub mod Running
 pub mod Selecting
 pub mod Delivering
-pub mod ScriptLine
-pub mod ScriptFault
-pub mod ScriptAnswering
-pub mod ScriptEnding
-pub mod ScriptKeeper
-pub mod ScriptDeeds
-pub mod ScriptJobs
-pub mod RestoreLine
-pub mod ScriptRestoring
-pub mod ScriptObeying
-pub mod FixedDrive
-pub mod DriveCount
-pub mod DrivenRestoring
 pub mod MarkedPaths

@@ -1,13 +1,11 @@
 //! The commands, carried out from their options.
 ghost use Rattle.br_cli_common.specs.Options.{HasDrives};
 
-use br_cli::{
-    check_files, explain_all, explain_number, extract_files, migrate_catalogue, serve_files,
-    serve_memory,
-};
+use br_cli::{check_files, explain_all, explain_number, extract_files};
 use br_cli_common::{Invocation, greet};
 use br_cli_console::restore_marked;
 use br_cli_listing::list;
+use br_cli_serve::{migrate_catalogue, serve_files, serve_memory};
 use br_keeper::Catalogue;
 use std::io;
 use std::sync::Wait;

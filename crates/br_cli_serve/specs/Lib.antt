@@ -1,0 +1,17 @@
+pub mod ScriptLine
+pub mod ScriptFault
+pub mod ScriptAnswering
+pub mod ScriptEnding
+pub mod ScriptKeeper
+pub mod ScriptDeeds
+pub mod ScriptJobs
+pub mod RestoreLine
+pub mod ScriptRestoring
+pub mod ScriptObeying
+pub mod FixedDrive
+pub mod DriveCount
+pub mod DrivenRestoring
+pub mod MemoryScriptEnding
+pub mod FolderVolumes
+pub mod Serving
+pub mod Migrating
