@@ -3,8 +3,8 @@ use Rattle.std.specs.Prelude.{ℕ}
 use Rattle.sqlite_disk.specs.declared.Disk.{Ghosts}
 use Rattle.sqlite_disk.specs.declared.Files.{Files}
 use Rattle.sqlite_store.specs.declared.store.FileStore.{FileStore}
-use Rattle.br_catalog_migrate.specs.FileMigration.{IsMigratedTo}
-use Rattle.br_catalog_migrate.specs.RawPremises.{HaveKept}
+use Rattle.br_catalog_files.specs.FileMigration.{IsMigratedTo}
+use Rattle.br_catalog_files.specs.RawPremises.{HaveKept}
 
 -- The database of a store that was opened so is one of version 2 now, with this number of jobs, and
 -- the database file alone holds it.

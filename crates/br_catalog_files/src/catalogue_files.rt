@@ -13,6 +13,7 @@ ghost use Rattle.br_store.specs.Made.{Finds};
 
 use crate::fault::{catalogue_fault, look_fault};
 use crate::migration::{Stores, migrate_at};
+use crate::raw_files;
 use br_catalog_rows::{WrongRows, push_wrong};
 use br_history::{History, Needs};
 use br_keeper::{Catalogue, CatalogueFault};
@@ -174,7 +175,7 @@ fn refusal_of(rt: &HostRuntime, db: &str) -> CatalogueFault {
 fn open_store(rt: &HostRuntime, db: &str) -> Result<FileStore<File>, CatalogueFault>
     ensures { IfOk result (λ store. IsClean (view store) → IsFresh (view store)) }
 {
-    match br_catalog_migrate::open(rt, db) {
+    match raw_files::open(rt, db) {
         Ok(store) => Ok(store),
         Err(_error) => Err(CatalogueFault::Unreadable),
     }

@@ -4,7 +4,7 @@ ghost use Rattle.std.specs.Prelude.{IfOk};
 ghost use Rattle.br_catalog_files.specs.Migrating.{Migrates};
 
 use crate::fault::catalogue_fault;
-use br_catalog_migrate::migrate_file;
+use crate::file_migration::migrate_file;
 use br_keeper::CatalogueFault;
 use br_store::StoreFault;
 use sqlite::FileStore;
