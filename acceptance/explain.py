@@ -1,5 +1,5 @@
 #!/usr/bin/env python3
-"""Compares what `brestore explain` prints with the table of docs/RESTORING.md, word for word.
+"""Compares what `brestore explain` prints with the table of docs/REFUSALS.md, word for word.
 
     acceptance/explain.py [EXECUTABLE]
 
@@ -19,7 +19,7 @@ sys.dont_write_bytecode = True
 sys.path.insert(0, os.path.join(os.path.dirname(os.path.dirname(os.path.abspath(__file__))), "tools"))
 from common import PROGRAM, ROOT
 
-PAGE = Path(ROOT) / "docs" / "RESTORING.md"
+PAGE = Path(ROOT) / "docs" / "REFUSALS.md"
 ROW = re.compile(r"\| (\d+) \| (.+?) \| (.+?) \| (.+?) \|")
 
 

@@ -5,7 +5,7 @@
     acceptance/logged.py --program FILE        another program
 
 The log of a whole restore is compared line by line with docs/formats.md, and the words beside a
-refusal with the table of docs/RESTORING.md. `stopping_calls.c`, which is compiled and preloaded,
+refusal with the table of docs/REFUSALS.md. `stopping_calls.c`, which is compiled and preloaded,
 ends the process before each of its calls that change a file: then each file that the log names is
 complete in the folder, and of the others there are no more than the log may lack. Standard output
 and standard error are those of the same restore without a log, also if the log is a pipe. The

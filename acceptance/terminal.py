@@ -2,7 +2,7 @@
 """Plays an operator at a terminal who makes mistakes, and compares what the terminal shows beside standard output.
 
 Standard input and standard error are a pseudo terminal, without echo; standard output is a file. What a refusal means is compared
-with the table of docs/RESTORING.md. Needs sqlite3 and cc.
+with the table of docs/REFUSALS.md. Needs sqlite3 and cc.
 
     acceptance/terminal.py                    over the program that is there
     acceptance/terminal.py --program FILE     over another program

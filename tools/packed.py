@@ -19,7 +19,7 @@ LIBRARIES = {"libc.so.6": "libc6"}
 FILES = {
     "share/man/man1/brestore.1": "share/man/man1/brestore.1",
     "share/bash-completion/completions/brestore": "share/bash-completion/completions/brestore",
-    **{f"share/doc/brestore/{it}": f"docs/{it}" for it in ("RESTORING.md", "IMPORTING.md", "formats.md")},
+    **{f"share/doc/brestore/{it}": f"docs/{it}" for it in ("RESTORING.md", "REFUSALS.md", "IMPORTING.md", "formats.md")},
     **{f"share/brestore/catalogue/{it}": f"catalogue/{it}" for it in ("import.sh", "stage.sql", "pgsql.sql", "mysql.sql", "sqlite.sql", "lines.sql", "rules.sql")},
 }
 CONTROL = """Package: brestore

@@ -4,7 +4,7 @@
 //! `refusals_below_50` and `refusals_from_50` return the table of the refusal numbers and the numbers
 //! of outcomes: for each its name, what it means and what to do next. `explain` looks up a number,
 //! `push_refusals` writes rows as text, and `push_words` the two lines that are printed beside a refusal. `specs/RefusalRows.antt`
-//! and the table of docs/RESTORING.md have the same words.
+//! and the table of docs/REFUSALS.md have the same words.
 //!
 //! `reason_of_file` and similar functions say in words why a file or a folder could not be written
 //! or read, as the disk shows it after the refusal. A sink reports only the file at which it
