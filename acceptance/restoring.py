@@ -290,6 +290,46 @@ def check_lost(checks, name, place, text, told, numbers):
     check(checks, f"lost: {name}", place, by_bootstrap(place, text), 1, told, {str(it): b"%d" % it for it in numbers}, manifest)
 
 
+CUT_OFF = b"  the block is cut off, at address %d\n"
+NO_LETTERS = b"  not a block: bytes 12 to 15 of its header are neither BB01 nor BB02, at address %d\n"
+NO_SIZE = b"  not a block: its header gives a size below that of the header or above 4194304 bytes, at address %d\n"
+SECOND = len(volume_of(1))
+
+# Volumes that are damaged: what is done to the bytes of a volume of two blocks, and what is said of it.
+DAMAGES = [
+    ("without its last byte", lambda data: data[:-1], CUT_OFF % SECOND),
+    ("that ends in its first header", lambda data: data[:20], CUT_OFF % 0),
+    ("with other letters", lambda data: data[:SECOND] + data[SECOND:].replace(b"BB02", b"BB03"), NO_LETTERS % SECOND),
+    ("with a size of 0", lambda data: data[:4] + bytes(4) + data[8:], NO_SIZE % 0),
+]
+
+
+def torn(checks, folder):
+    """Volumes of which a block is refused: the files of which they may have a part do not come back, and all others do."""
+    for name, damage, reason in DAMAGES:
+        place = Place(folder, {"V": volume_of(1, 2), "W": damage(volume_of(3, 4))})
+        text = group(b"V", b"1-2") + group(b"W", b"3-4")
+        told = b"lost W\n" + reason + b"missing 1 100 3-4 W\n" + ALL_PUT
+        check_lost(checks, f"a volume {name}", place, text, told, [1, 2])
+    cut = volume_of(4)[:-1]
+    place = Place(folder, {"V": volume_of(1), "W": cut, "X": volume_of(2, 3), "Y": cut})
+    text = group(b"V", b"1") + group(b"W", b"2,4") + group(b"X", b"2-3") + group(b"Y", b"4-5")
+    told = b"lost W\n" + CUT_OFF % 0 + b"lost Y\n" + CUT_OFF % 0 + b"missing 1 100 2 W\nmissing 1 100 4 W\nmissing 1 100 4-5 Y\n" + ALL_PUT
+    check_lost(checks, "two volumes that are cut off", place, text, told, [1, 3])
+    place = Place(folder, {"V": volume_of(1, 2), "W": cut})
+    told = b"lost X\n" + NO_VOLUME % b"X" + b"lost W\n" + CUT_OFF % 0 + b"missing 1 100 4 W\nmissing 1 100 2 X\n" + ONE_PUT
+    text = group(b"V", b"1-2") + group(b"W", b"4") + group(b"X", b"2")
+    check_lost(checks, "a volume that is cut off, and one that is not there", place, text, told, [1])
+    tar = place.folder / "x.tar"
+    found = run(checks, [*by_bootstrap(place, text), "--tar", tar])
+    names = subprocess.run(["tar", "-tf", tar], capture_output=True, timeout=60).stdout
+    checks.check("and into a stream", (found, names), ((1, b"", told_in(place, told)), b"1\n"))
+    given = by_bootstrap(place, group(b"V", b"1") + group(b"W", b"4"))
+    checks.check("`extract` refuses it", run(checks, ["extract", *given[1:]]), (1, b"", b"refused 12 W 0\n"))
+    place = Place(folder, {"W": cut})
+    check(checks, "no volume without damage", place, by_bootstrap(place, group(b"W", b"4")), 1, b"refused 12 W 0\n", {}, b"")
+
+
 def drawn_lost(checks, folder):
     """Drawn bootstraps of which volumes are lost, with what a plain set gives."""
     draw = random.Random(61)
@@ -750,15 +790,19 @@ def without_each(checks, client, place, jobs):
     bsr.write_bytes(text)
     groups = groups_of(text)
 
-    def restored(name):
+    by_bsr = ["--bsr", bsr]
+    by_names = ["--db", jobs["db"], "--client", jobs["client"], "--fileset", jobs["fileset"]]
+
+    def restored(name, given):
         into = place / f"{client} {name}"
         into.mkdir()
-        given = ["restore", "--bsr", bsr, "--volumes", jobs["volumes"], "--into", into, "--manifest", manifest]
+        given = ["restore", *given, "--volumes", jobs["volumes"], "--into", into, "--manifest", manifest]
         status, _, told = run(checks, given)
         lines = [line for line in manifest.read_bytes().splitlines() if line.startswith((b"F ", b"X "))]
         return status, told.splitlines(), lines, {os.fsencode("/" + str(it.relative_to(into))) for it in into.rglob("*") if it.is_file()}
 
-    _, _, whole, files = restored("whole")
+    _, _, whole, files = restored("whole", by_bsr)
+    checks.check(f"{client}: whole by a catalogue", restored("whole by names", by_names)[2:], (whole, files))
     checks.check(f"{client}: by a bootstrap of several volumes", len({it[b"Volume"][0] for it in groups}) > 1, True)
     for volume in sorted({it[b"Volume"][0] for it in groups}):
         file = Path(jobs["volumes"]) / os.fsdecode(volume)
@@ -766,16 +810,29 @@ def without_each(checks, client, place, jobs):
         gone = asked_by([it for it in groups if it[b"Volume"][0] == volume])
         left = [line for line in whole if b" ".join(line.split(b" ")[1:4]) not in gone]
         paths = {line.split(b" ")[5] for line in left}
-        found = restored(volume.decode())
+        found = restored(volume.decode(), by_bsr)
         checks.check(f"{client}: without {volume.decode()}", (found[0], found[1][0], found[2]), (1, b"lost " + volume, left))
         missing = [line.split(b" ") for line in found[1] if line.startswith(b"missing ")]
         named = asked_by([{b"VolSessionId": it[1:2], b"VolSessionTime": it[2:3], b"FileIndex": it[3:4]} for it in missing])
         checks.check(f"{client}: without {volume.decode()}, what is missing", named, gone)
-        checks.check(f"{client}: without {volume.decode()}, the files", found[3], {it for it in files if escaped(it).encode() in paths})
+        there = {it for it in files if escaped(it).encode() in paths}
+        checks.check(f"{client}: without {volume.decode()}, the files", found[3], there)
+        keys = [b" ".join(line.split(b" ")[1:4]) for line in whole]
+        lines = [b"X %s 63" % key if key in gone else line for key, line in zip(keys, whole)]
+        found = restored(f"{volume.decode()} by names", by_names)
+        expected = 1, b"lost " + volume, lines, there
+        checks.check(f"{client}: without {volume.decode()}, by a catalogue", (found[0], found[1][0], *found[2:]), expected)
         (place / "away").rename(file)
+        data = file.read_bytes()
+        file.write_bytes(bytes(24) + data[24:])
+        for way, given in (("a bootstrap", by_bsr), ("a catalogue", by_names)):
+            found = restored(f"{volume.decode()} spoilt, by {way}", given)
+            expected = 1, b"lost " + volume, left if given is by_bsr else lines, there
+            checks.check(f"{client}: {volume.decode()} spoilt, by {way}", (found[0], found[1][0], *found[2:]), expected)
+        file.write_bytes(data)
 
 
-PARTS = (bootstraps, empty, others, cut, lost, drawn_lost, logs, manifests, streams, closed, patterns, refusals, faults, terminals, cases, order, director)
+PARTS = (bootstraps, empty, others, cut, lost, torn, drawn_lost, logs, manifests, streams, closed, patterns, refusals, faults, terminals, cases, order, director)
 
 
 def main():

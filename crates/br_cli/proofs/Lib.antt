@@ -1,5 +1,2 @@
 mod TellLaws
 mod ExtractLaws
-mod SpanLaws
-mod IndexLaws
-mod NarrowLaws

@@ -1,5 +1,6 @@
 -- The task of `extract`: a bootstrap, over drives, a writer and a sink.
 use Rattle.std.specs.Prelude.{◌≡◌, ℕ, List, map, Option, None, option_map, Result, Ok, Err, ⊤}
+use Rattle.std.specs.Io.KnownBytes.{Keeps}
 use Rattle.std.specs.declared.io.Write as write
 use Rattle.br_volume.specs.declared.drive.Drive as drive
 use Rattle.br_bsr.specs.declared.fault.BsrFault.{BsrFault}
@@ -43,15 +44,27 @@ AreWantedOfRead (Err fault) wanted seen result = ⊤
 abbrev pub AreWantedTo : Extraction → Change → Result Extracted ExtractFault → Type 0
 AreWantedTo e seen result = AreWantedOfRead e.bootstrap.read e.wanted seen result
 
+-- nothing was written or put between these
+pub record IsUnused (before at : Seen) : Type 0 where
+  pub has : at.has ≡ before.has
+  pub written : Keeps before.written at.written
+
+-- The extraction was carried out in the end, and nothing was written or put before.
+pub record ExtractsLast (e : Extraction) (seen : Change) (result : Result Extracted ExtractFault) : Type 0 where
+  pub at : Seen
+  pub unused : IsUnused seen.old at
+  pub extracts : ExtractsTo e (record { old = at; new = seen.new }) result
+  pub wanted : AreWantedTo e (record { old = at; new = seen.new }) result
+
 -- what a restore into a tar stream and its writer show, if the sink has these files
 abbrev pub with_stream : {D W : Type 0} → drive.Ghosts D → write.Ghosts W → Restore D (WatchedSink InTar) × W → InSink → Seen
 with_stream drives writer at has = record { told = map drives.shows at.0.drives.items; written = writer.contents at.1; has = has }
 
--- The extraction was carried out, with the files that were reported to the sink. The sink's stream
+-- The extraction was carried out in the end, with the files that were reported to the sink. The sink's stream
 -- is that of the reported files. It has an end if all files were put and the end could be written.
 abbrev pub StreamsTo : {D W T : Type 0} → drive.Ghosts D → write.Ghosts W → (T → Option (List ℕ)) → Extraction
     → Restore D (WatchedSink InTar) × W → Restore D (WatchedSink InTar) × W → Streamed (Result Extracted ExtractFault) T → Type 0
 StreamsTo drives writer holds e before after s =
     (now : InSink)
-    × ExtractsTo e (record { old = with_stream drives writer before (option_map told_inside before.0.sink); new = with_stream drives writer after now }) s.run
+    × ExtractsLast e (record { old = with_stream drives writer before (option_map told_inside before.0.sink); new = with_stream drives writer after now }) s.run
     × StreamHolds (extent s.run) now s.end (option_map holds s.writer)

@@ -1,10 +1,8 @@
 pub mod ExtractEnding
 pub mod ExtractStarting
-pub mod GroupSessions
-pub mod LostFiles
-pub mod LeftIndexes
-pub mod NarrowedBootstrap
-pub mod LostVolumes
+pub mod LostGroups
+pub mod BootstrapFiles
+pub mod VolumeFaults
 pub mod ExtractTasks
 pub mod CheckCommand
 pub mod Explaining

@@ -9,7 +9,8 @@ ghost use Rattle.br_model.specs.Meaning.{pieces_of};
 ghost use Rattle.br_check.specs.Shown.{shown_between};
 ghost use Rattle.br_cli.specs.CheckCommand.{ChecksFor, ChecksTask, HasSums, checked_status, run_refusal, run_status};
 
-use crate::extract_command::{BootstrapFile, ExtractStartFault, expect, refuse, report_stream};
+use crate::bootstrap_file::BootstrapFile;
+use crate::extract_command::{ExtractStartFault, expect, refuse, report_stream};
 use br_bsr::Bootstrap;
 use br_check::{Checked, check, push_checksums};
 use br_cli_common::{BAD_STREAM, CLEAN, CheckOptions, Checksums, Progress, REFUSED, Target};
@@ -165,7 +166,8 @@ pub fn check_over<D: Drive, W: Flush>(
     ensures grows { OnlyGrows (D.shows task.old.drive) (D.shows task.new.drive) }
     ensures flushed { OnOk result (W.is_flushed writer.new) }
 {
-    let read = match &task.bootstrap.read {
+    let file = &task.bootstrap;
+    let read = match &file.read {
         Ok(read) => read,
         Err(fault) => return Err(ExtractFault::Bootstrap(*fault)),
     };

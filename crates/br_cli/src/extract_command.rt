@@ -10,12 +10,14 @@ ghost use Rattle.br_cli.specs.ExtractStarting.{start_status};
 ghost use Rattle.br_cli_target.specs.TarEnding.{IsShown};
 ghost use Rattle.br_cli_target.specs.TextPlaces.{manifest_place};
 ghost use Rattle.br_engine.specs.Restores.{TellsDelivered, TellsStop, change};
+ghost use Rattle.br_damage.specs.NarrowedBootstrap.{IsNarrowedBy};
+ghost use Rattle.br_cli.specs.BootstrapFiles.{whole_of};
 ghost use Rattle.br_cli.specs.ExtractTasks.{AreWantedTo, ExtractsTo, StreamsTo};
-ghost use Rattle.br_cli.specs.LostVolumes.{IsWithoutLost};
 ghost use Rattle.br_cli_common.specs.declared.options.Printed.TheVariants.{Manifest};
 
-use crate::lost_volumes::narrow;
-use br_bsr::{Bootstrap, BsrFault};
+use crate::bootstrap_file::BootstrapFile;
+use crate::left_extraction::extract_left;
+use br_bsr::Bootstrap;
 use br_check::push_empty;
 use br_cli_common::{BAD_STREAM, CLEAN, ExtractOptions, Printed, REFUSED, Target, refuse_start};
 use br_cli_progress::{Gauge, WatchedDrive, WatchedSink, WatchedWriter};
@@ -27,16 +29,14 @@ use br_cli_target::{
     say_volumes, tar_into, tar_output, tell_others, tell_outcomes, with_watched_drives,
     with_watched_sink,
 };
-use br_engine::{
-    ExtractFault, Extracted, ReadBootstrap, Restore, RestoreEnd, RestoreOrder, read_text,
-};
+use br_damage::NarrowedBootstrap;
+use br_engine::{ExtractFault, Extracted, Restore, RestoreEnd, RestoreOrder};
 use br_sink::{Flush, Sink};
 use br_sink_folder::FolderFault;
 use br_sink_tar::TarSink;
 use br_types::{Gaps, Path, Start, Wanted};
 use br_volume::{Drive, HostDrive};
 use std::alloc::{AllocError, Global};
-use std::fs::{self, File};
 use std::io::{self, BufWriter, ErrorKind};
 use std::sync::Wait;
 use std::thread::Threads;
@@ -250,95 +250,6 @@ fn report(
     Ok(status)
 }
 
-/// The bootstrap in a file, or why its text is refused, and the path of the file.
-#[derive(Drop)]
-pub(crate) struct BootstrapFile<'p> {
-    path: &'p str,
-    pub(crate) read: Result<ReadBootstrap, BsrFault>,
-    /// The lines of the indexes that are lost with their volumes, if the bootstrap is narrowed to
-    /// what is left.
-    lost: Option<Vec<u8>>,
-}
-
-/// Returns the text of a bootstrap, as far as it can be one: of standard input for `-`, else of the
-/// file with this path. Nothing but a regular file is opened, since a pipe may never have a writer.
-fn text_at(rt: &HostRuntime, path: &str) -> Result<Vec<u8>, ExtractStartFault> {
-    if path == "-" {
-        let mut input = rt.reader();
-        return Ok(read_text(rt.alloc(), &mut input)?);
-    }
-    if !fs::metadata(rt, path)?.is_file() {
-        return Err(ExtractStartFault::NoFile);
-    }
-    let mut file = File::open(rt, path)?;
-    Ok(read_text(rt.alloc(), &mut file)?)
-}
-
-impl<'p> BootstrapFile<'p> {
-    /// Reads the file with this path, or standard input for `-`, as far as it can be a bootstrap.
-    pub(crate) fn read(
-        rt: &HostRuntime,
-        path: &'p str,
-    ) -> Result<BootstrapFile<'p>, ExtractStartFault>
-        ensures path { IfOk result (λ file. file.path.now ≡ path.entry.now) }
-        ensures whole { IfOk result (λ file. file.lost ≡ None) }
-    {
-        let text = text_at(rt, path)?;
-        Ok(BootstrapFile {
-            path,
-            read: ReadBootstrap::read(rt.alloc(), &text),
-            lost: None,
-        })
-    }
-
-    /// Returns the bootstrap without the volumes that can't be read, if that is known of each file.
-    fn without_lost(
-        self,
-        rt: &HostRuntime,
-        gauge: &Gauge<'_>,
-        volumes: &str,
-    ) -> io::Result<BootstrapFile<'p>>
-        requires { self.lost ≡ None }
-        ensures path { IfOk result (λ file. file.path.now ≡ self.entry.path.now) }
-        ensures left { IfOk result (IsWithoutLost self.entry) }
-    {
-        let narrowed = match &self.read {
-            Ok(read) => narrow(rt, gauge, volumes, &read.bootstrap)?,
-            Err(_) => None,
-        };
-        let Some(narrowed) = narrowed else {
-            return Ok(self);
-        };
-        let read = ReadBootstrap {
-            bootstrap: narrowed.left,
-            counts: Vec::new(rt.alloc()),
-        };
-        Ok(BootstrapFile {
-            path: self.path,
-            read: Ok(read),
-            lost: Some(narrowed.missing),
-        })
-    }
-
-    /// Returns the lines of what is lost, if volumes are.
-    fn lost(&self) -> Option<&[u8]>
-        ensures { is_some result ≡ is_some self.now.lost }
-    {
-        match &self.lost {
-            Some(lines) => Some(lines),
-            None => None,
-        }
-    }
-
-    /// Returns the bootstrap, if the text is not refused.
-    pub(crate) fn bootstrap(&self) -> Option<&Bootstrap> {
-        match &self.read {
-            Ok(read) => Some(&read.bootstrap),
-            Err(_) => None,
-        }
-    }
-}
-
 /// The reason why no restore began.
 #[derive(Debug, Drop, Error)]
 pub enum ExtractStartFault {
@@ -390,8 +301,27 @@ impl From<AllocError> for ExtractStartFault {
 /// The order of `extract`: the bootstrap, and what is wanted besides the plain restore.
 #[derive(Drop)]
 pub struct Extraction<'p> {
-    bootstrap: BootstrapFile<'p>,
-    wanted: Wanted,
+    pub(crate) bootstrap: BootstrapFile<'p>,
+    pub(crate) wanted: Wanted,
+}
+
+impl<'p> Extraction<'p> {
+    /// Returns the order with the bootstrap narrowed to what is left of the whole one.
+    pub(crate) fn with_lost(
+        self,
+        alloc: Global,
+        flags: Vec<bool>,
+        narrowed: NarrowedBootstrap,
+    ) -> Extraction<'p>
+        requires { IfSome (whole_of self.bootstrap) (λ w. IsNarrowedBy flags.items w narrowed.left narrowed.missing.items) }
+        ensures whole { whole_of result.bootstrap ≡ whole_of self.entry.bootstrap }
+        ensures wanted { result.wanted ≡ self.entry.wanted }
+    {
+        Extraction {
+            bootstrap: self.bootstrap.with_lost(alloc, flags, narrowed),
+            wanted: self.wanted,
+        }
+    }
 }
 
 /// The order of `extract`, and its means of restoring.
@@ -518,6 +448,7 @@ pub fn extract_over<D: Drive + Send, W: Flush, S: Sink>(
     ensures wanted { AreWantedTo extraction.now (change D.Drive W.Write S.Sink (restore.old, writer.old) (restore.new, writer.new)) result }
     ensures outcomes { TellsDelivered (change D.Drive W.Write S.Sink (restore.old, writer.old) (restore.new, writer.new)) result }
     ensures stopped_at { TellsStop result }
+    ensures many { length restore.new.drives.items ≡ length restore.old.drives.items }
     ensures flushed { IfOk result (λ _. W.is_flushed writer.new) }
 {
     match &extraction.bootstrap.read {
@@ -549,24 +480,28 @@ fn extent_of(run: &Result<Extracted, ExtractFault>) -> PutExtent
 }
 
 /// Restores into the tar stream of a sink, and ends the stream if all files were put. The manifest goes
-/// to the writer before.
-fn extract_stream<D: Drive + Send, W: Flush, T: Settle + Drop>(
+/// to the writer before. Returns also what was restored.
+fn extract_stream<'p, D: Drive + Send, W: Flush, T: Settle + Drop>(
     threads: &(impl Threads + Wait + Sync),
-    extraction: &Extraction<'_>,
+    watch: (&HostRuntime, &Gauge<'_>),
+    printed: Printed<'_>,
+    asked: Extraction<'p>,
     restore: &mut Restore<D, WatchedSink<'_, '_, TarSink<T>>>,
     writer: &mut W,
-) -> Streamed<Result<Extracted, ExtractFault>, T>
+) -> io::Result<(Extraction<'p>, Streamed<Result<Extracted, ExtractFault>, T>)>
     requires drives { AreDrives restore.old.drives.items }
     requires sink { IsSome restore.old.sink }
-    ensures streams { StreamsTo D.Drive W.Write T.contents extraction.now (restore.old, writer.old) (restore.new, writer.new) result }
-    ensures stopped_at { TellsStop result.run }
-    ensures flushed { IfOk result.run (λ _. W.is_flushed writer.new) }
-    ensures shown { IfSome result.writer (λ w. IsShown (T.is_flushed w) result.end) }
-    ensures settled { IfSome result.writer (λ w. IsShown (T.is_settled w) result.end) }
+    ensures streams { IfOk result (λ done. StreamsTo D.Drive W.Write T.contents done.0 (restore.old, writer.old) (restore.new, writer.new) done.1) }
+    ensures whole { IfOk result (λ done. whole_of done.0.bootstrap ≡ whole_of asked.entry.bootstrap) }
+    ensures wanted { IfOk result (λ done. done.0.wanted ≡ asked.entry.wanted) }
+    ensures stopped_at { IfOk result (λ done. TellsStop done.1.run) }
+    ensures flushed { IfOk result (λ done. IfOk done.1.run (λ _. W.is_flushed writer.new)) }
+    ensures shown { IfOk result (λ done. IfSome done.1.writer (λ w. IsShown (T.is_flushed w) done.1.end)) }
+    ensures settled { IfOk result (λ done. IfSome done.1.writer (λ w. IsShown (T.is_settled w) done.1.end)) }
 {
-    let run = extract_over(threads, extraction, restore, writer);
+    let (extraction, run) = extract_left(threads, watch, printed, asked, restore, writer)?;
     let (writer, end) = end_stream(restore.sink.take(), extent_of(&run));
-    Streamed { run, end, writer }
+    Ok((extraction, Streamed { run, end, writer }))
 }
 
 /// Prints what else is in the folder of a resumed restore, if the restore wrote its manifest.
@@ -615,7 +550,7 @@ fn extract_into<'r, M: TextOutput + Drop>(
         threads,
         (rt, gauge),
         given,
-        &extraction,
+        extraction,
         &mut restore,
         &mut writer,
     )
@@ -626,19 +561,18 @@ fn run_into<M: TextOutput + Drop>(
     threads: &(impl Threads + Wait + Sync),
     watch: (&HostRuntime, &Gauge<'_>),
     given: &ExtractOptions<'_>,
-    extraction: &Extraction<'_>,
+    asked: Extraction<'_>,
     restore: &mut Restore<WatchedDrive<'_, '_, HostDrive<'_>>, LeavingSink<'_, '_>>,
     writer: &mut WatchedWriter<'_, '_, BufWriter<M>>,
 ) -> io::Result<u8>
     requires drives { AreDrives restore.old.drives.items }
 {
     let (rt, gauge) = watch;
-    let bootstrap = extraction.bootstrap.bootstrap();
-    expect(gauge, bootstrap);
-    let run = extract_over(threads, extraction, restore, writer);
+    expect(gauge, asked.bootstrap.bootstrap());
+    let (extraction, run) = extract_left(threads, watch, given.printed, asked, restore, writer)?;
     gauge.clear();
     name_others(rt, gauge, given, &run)?;
-    let told = ToldOutcomes::by(writer, bootstrap);
+    let told = ToldOutcomes::by(writer, extraction.bootstrap.bootstrap());
     let left = LeftOut {
         failed: left_out(&restore.sink),
         lost: extraction.bootstrap.lost(),
@@ -674,7 +608,7 @@ fn extract_onto<'r, T: Channel + Drop, M: TextOutput + Drop>(
         threads,
         (rt, gauge),
         given,
-        &extraction,
+        extraction,
         &mut restore,
         &mut writer,
     )
@@ -685,7 +619,7 @@ fn run_onto<T: Channel + Drop, M: TextOutput + Drop>(
     threads: &(impl Threads + Wait + Sync),
     watch: (&HostRuntime, &Gauge<'_>),
     given: &ExtractOptions<'_>,
-    extraction: &Extraction<'_>,
+    asked: Extraction<'_>,
     restore: &mut Restore<
         WatchedDrive<'_, '_, HostDrive<'_>>,
         WatchedSink<'_, '_, TarSink<BufWriter<T>>>,
@@ -696,11 +630,17 @@ fn run_onto<T: Channel + Drop, M: TextOutput + Drop>(
     requires sink { IsSome restore.old.sink }
 {
     let (rt, gauge) = watch;
-    let bootstrap = extraction.bootstrap.bootstrap();
-    expect(gauge, bootstrap);
-    let stream = extract_stream(threads, extraction, restore, writer);
+    expect(gauge, asked.bootstrap.bootstrap());
+    let (extraction, stream) = extract_stream(
+        threads,
+        watch,
+        given.printed,
+        asked,
+        restore,
+        writer,
+    )?;
     gauge.clear();
-    let told = ToldOutcomes::by(writer, bootstrap);
+    let told = ToldOutcomes::by(writer, extraction.bootstrap.bootstrap());
     let left = LeftOut {
         failed: &[],
         lost: extraction.bootstrap.lost(),
@@ -739,33 +679,22 @@ pub fn extract_files(
     match gauge_of(rt, given.volumes, given.target, given.progress, given.log) {
         Ok(gauge) => {
             let gauge = gauge.with_words(matches!(given.printed, Printed::Words(_)));
-            let status = extract_told(rt, threads, &gauge, given)?;
+            let status = match (given.printed, given.target) {
+                (Printed::Manifest, Target::TarOutput) => {
+                    extract_to(rt, threads, &gauge, given, rt.stderr())?
+                }
+                (Printed::Manifest, _) => {
+                    extract_to(rt, threads, &gauge, given, io::writer(rt))?
+                }
+                (Printed::Words(None), _) => extract_to(rt, threads, &gauge, given, io::sink())?,
+                (Printed::Words(Some(path)), _) => match open_manifest(rt, path) {
+                    Ok(file) => extract_to(rt, threads, &gauge, given, file)?,
+                    Err(error) => refuse_manifest(rt, &gauge, Some(path), error)?,
+                },
+            };
             gauge.end_log(status)
         }
         Err(error) => refuse_log(rt, given.log, error),
-    }
-}
-
-/// Restores as `extract_files` does, and watches the restore. Opens the file of the manifest, if it
-/// has one.
-fn extract_told(
-    rt: &HostRuntime,
-    threads: &(impl Threads + Wait + Sync),
-    gauge: &Gauge<'_>,
-    given: &ExtractOptions<'_>,
-) -> io::Result<u8>
-    requires few { AreFew given.now.drives }
-{
-    match (given.printed, given.target) {
-        (Printed::Manifest, Target::TarOutput) => {
-            extract_to(rt, threads, gauge, given, rt.stderr())
-        }
-        (Printed::Manifest, _) => extract_to(rt, threads, gauge, given, io::writer(rt)),
-        (Printed::Words(None), _) => extract_to(rt, threads, gauge, given, io::sink()),
-        (Printed::Words(Some(path)), _) => match open_manifest(rt, path) {
-            Ok(file) => extract_to(rt, threads, gauge, given, file),
-            Err(error) => refuse_manifest(rt, gauge, Some(path), error),
-        },
     }
 }
 

@@ -2,17 +2,14 @@
 //! br_cli_listing: what each reads, does and prints, and its exit status.
 //!
 //! `extract`, `restore` and `check` restore and check by a bootstrap. `restore` goes on without
-//! volumes that can't be read: `NarrowedBootstrap` asks for the files of which they have no part.
+//! volumes that can't be read.
 #![tactic(auto)]
 
+mod bootstrap_file;
 mod check_command;
 mod explain_command;
 mod extract_command;
-mod group_sessions;
-mod left_indexes;
-mod lost_files;
-mod lost_volumes;
-mod narrowed_bootstrap;
+mod left_extraction;
 
 pub use br_cli_target::{Ending, TarFault};
 pub use check_command::{CheckTask, check_ending, check_files, check_over, set_up_check};

@@ -1,2 +1,3 @@
 mod LoadedLaws
 mod SessionLaws
+mod DamageLaws

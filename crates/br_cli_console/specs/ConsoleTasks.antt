@@ -1,6 +1,7 @@
 -- The tasks of `console`: a session, over drives, writers and a sink.
-use Rattle.std.specs.Prelude.{◌≡◌, ℕ, List, map, Option, Some, None, option_map, Result, Ok, Err, ⊤}
+use Rattle.std.specs.Prelude.{◌≡◌, ◌⊎◌, ℕ, true, is_some, List, map, Option, Some, None, option_map, Result, Ok, Err, ⊤}
 use Rattle.std.specs.Borrow.{Bor}
+use Rattle.std.specs.Io.KnownBytes.{Keeps}
 use Rattle.std.specs.declared.io.Write as write
 use Rattle.br_volume.specs.declared.drive.Drive as drive
 use Rattle.br_sink.specs.declared.sink.Sink as sink
@@ -20,6 +21,9 @@ use Rattle.br_console.specs.declared.ending.LineVerdict.{LineVerdict}
 use Rattle.br_console.specs.declared.ending.ConsoleRun.{ConsoleRun}
 use Rattle.br_console.specs.declared.console_fault.ConsoleFault.{ConsoleFault}
 use Rattle.br_console.specs.declared.console_fault.ConsoleFault.TheVariants as fault
+use Rattle.br_damage.specs.NarrowedBootstrap.{IsNarrowedOf}
+use Rattle.br_match.specs.declared.fault.PieceFault.{PieceFault}
+use Rattle.br_cli_target.specs.LostVolumes.{damage}
 use Rattle.br_cli_common.specs.declared.options.Marks.{Marks}
 use Rattle.br_cli_common.specs.declared.options.Marks.TheVariants as marks
 use Rattle.br_cli_progress.specs.declared.watched_sink.WatchedSink.{WatchedSink}
@@ -92,6 +96,28 @@ FinishesWith None (Some holds) wanted seen prepared result = ⊥
 abbrev pub FinishesBy : Wanted → SessionChange → Prepared → Result ConsoleRun ConsoleFault → Type 0
 FinishesBy wanted seen prepared result = FinishesWith seen.old.manifest seen.new.manifest wanted seen prepared result
 
+-- ---- sessions that end at a damaged volume
+
+-- what the writer of the manifest held, if there is one, it holds
+abbrev pub KeepsEach : Option (Option (List ℕ)) → Option (Option (List ℕ)) → Type 0
+KeepsEach None None = ⊤
+KeepsEach (Some held) (Some holds) = Keeps held holds
+KeepsEach (Some held) None = ⊥
+KeepsEach None (Some holds) = ⊥
+
+-- nothing was put, or written to a manifest of its own
+pub record IsUnused (before at : SessionSeen) : Type 0 where
+  pub has : at.has ≡ before.has
+  pub manifest : KeepsEach before.manifest at.manifest
+
+-- the fault of a damaged volume, if the run ended at one
+abbrev pub damage_of : Result ConsoleRun ConsoleFault → Option PieceFault
+damage_of (Err (fault.Piece why)) = damage why
+damage_of _ = None
+
+abbrev pub IsDamage : Result ConsoleRun ConsoleFault → Type 0
+IsDamage run = is_some (damage_of run) ≡ true
+
 -- the session of the lines that a reader has, or the rest of one that was prepared
 abbrev pub RunsOn : {R : Type 0} → (R → Option (List ℕ)) → Bor Asked × Wanted → SessionInput R → SessionChange → Result ConsoleRun ConsoleFault → Type 0
 RunsOn remaining order (input.Lines reader) seen result = RunsBy order (remaining reader) seen result
@@ -101,10 +127,24 @@ RunsOn remaining order (input.Prepared prepared) seen result = FinishesBy order.
 abbrev pub TellsMissed : Result (List (List ℕ)) ℕ → LineVerdict → Type 0
 TellsMissed missed lines = (patterns : List (List ℕ)) × (missed ≡ Ok patterns) × (are_accepted lines ≡ is_empty patterns)
 
--- The plan is that of the paths which the patterns name, or refused as that is. It counts as refused
--- lines if a pattern meets no path.
+-- the bootstrap of a plan is narrowed to what is left of its volumes, and the plan names the same files
+pub record IsNarrowedPlan (whole left : Plan) : Type 0 where
+  pub names : left.names ≡ whole.names
+  pub missing : List ℕ
+  pub groups : IsNarrowedOf whole.groups left.groups missing
+
+-- the plan is the same, or narrowed
+abbrev pub IsLeftOf : Plan → Plan → Type 0
+IsLeftOf whole left = (left ≡ whole) ⊎ IsNarrowedPlan whole left
+
+-- a plan was made, and this is what is left of it
+abbrev pub IsLeftOfMade : Result Plan ℕ → Plan → Type 0
+IsLeftOfMade made left = (whole : Plan) × (made ≡ Ok whole) × IsLeftOf whole left
+
+-- The plan is that of the paths which the patterns name, or what is left of it without lost volumes, or
+-- refused as that is. It counts as refused lines if a pattern meets no path.
 abbrev pub PreparesPaths : Asked → List (List ℕ) → Prepared → Type 0
-PreparesPaths asked patterns (Ok (lines, Some plan)) = (plan_of_paths asked patterns ≡ Ok plan) × TellsMissed (missed_of_paths asked patterns) lines
+PreparesPaths asked patterns (Ok (lines, Some plan)) = IsLeftOfMade (plan_of_paths asked patterns) plan × TellsMissed (missed_of_paths asked patterns) lines
 PreparesPaths asked patterns (Ok (lines, None)) = ⊥
 PreparesPaths asked patterns (Err fault.Memory) = ⊥
 PreparesPaths asked patterns (Err (fault.Plan why)) = IsRefusal (plan.cause why) (plan_of_paths asked patterns)
@@ -119,6 +159,23 @@ IsInputOf asked marks.Lines (input.Lines reader) = ⊤
 IsInputOf asked marks.Lines (input.Prepared prepared) = ⊥
 IsInputOf asked (marks.Patterns patterns) (input.Lines reader) = ⊥
 IsInputOf asked (marks.Patterns patterns) (input.Prepared prepared) = PreparesPaths asked (texts patterns.items) prepared
+
+-- what patterns prepare, which mark the paths
+abbrev pub PreparesBy : Asked → Marks → Prepared → Type 0
+PreparesBy asked marks.Lines prepared = ⊥
+PreparesBy asked (marks.Patterns patterns) prepared = PreparesPaths asked (texts patterns.items) prepared
+
+-- The rest of a session was prepared once more, and was the last. Nothing was put before.
+pub record RunsAgain (order : Bor Asked × Wanted) (by : Marks) (seen : SessionChange) (run : Result ConsoleRun ConsoleFault) : Type 0 where
+  pub prepared : Prepared
+  pub is : PreparesBy order.0.now by prepared
+  pub at : SessionSeen
+  pub unused : IsUnused seen.old at
+  pub runs : FinishesBy order.1 (record { old = at; new = seen.new }) prepared run
+
+-- the session by these marks ran on what it was to run on, or on what was prepared later
+abbrev pub RunsLast : {R : Type 0} → (R → Option (List ℕ)) → Bor Asked × Wanted → Marks × SessionInput R → SessionChange → Result ConsoleRun ConsoleFault → Type 0
+RunsLast remaining order first seen run = RunsOn remaining order first.1 seen run ⊎ RunsAgain order first.0 seen run
 
 -- what a session shows, if its sink has these files
 abbrev pub shows : {D W M S : Type 0} → drive.Ghosts D → write.Ghosts W → write.Ghosts M → Restore D S × Outputs W M → InSink → SessionSeen

@@ -11,13 +11,13 @@ ghost use Rattle.br_cli_console.specs.ConsoleCommandEnding.{end_line, end_status
 ghost use Rattle.br_cli_console.specs.ConsoleStarting.{start_number};
 ghost use Rattle.br_cli_target.specs.TarEnding.{IsShown};
 ghost use Rattle.br_cli_target.specs.TextPlaces.{answers_place};
-ghost use Rattle.br_cli_console.specs.ConsoleTasks.{IsInputOf, RunsOn, Streams, tar};
+ghost use Rattle.br_cli_console.specs.ConsoleTasks.{IsInputOf, RunsLast, Streams, tar};
 ghost use Rattle.br_cli_console.specs.declared.console_command.ConsoleStartFault.TheVariants as start;
 
+use crate::left_session::run_left;
 use crate::pattern_marks::prepare_patterns;
 use crate::session_manifest::{
-    ManifestFile, Outputs, SessionInput, end_file, manifest_at, run_session, told_by,
-    watched_outputs,
+    ManifestFile, Outputs, SessionInput, end_file, manifest_at, told_by, watched_outputs,
 };
 use br_cli_common::{
     BAD_STREAM, CLEAN, ConsoleOptions, Marks, Prompted, REFUSED, Target, is_attended, with_prompt,
@@ -415,24 +415,25 @@ fn console_stream<
     T: Settle + Drop,
 >(
     threads: &(impl Threads + Wait + Sync),
+    task: (&HostRuntime, &Gauge<'_>, &Marks<'_>),
     order: (&JobSelection<'_>, Wanted),
     restore: &mut Restore<D, WatchedSink<'_, '_, TarSink<T>>>,
-    input: SessionInput<R>,
+    first: (SessionInput<R>, Vec<bool>),
     out: &mut Outputs<W, M>,
-) -> Streamed<Result<ConsoleRun, ConsoleFault>, T>
+) -> io::Result<Streamed<Result<ConsoleRun, ConsoleFault>, T>>
     requires drives { AreDrives restore.old.drives.items }
     requires shown { W.is_flushed out.old.answers }
     requires fresh { IfSome out.old.manifest M.is_flushed }
     requires sink { IsSome restore.old.sink }
-    ensures streams { Streams (RunsOn R.remaining order.entry input)
-        (tar D.Drive W.Write M.Write (restore.old, out.old) (restore.new, out.new)) T.contents result }
-    ensures flushed { OnOk result.run (W.is_flushed out.new.answers) }
-    ensures apart { OnOk result.run (IfSome out.new.manifest M.is_flushed) }
-    ensures shown { IfSome result.writer (λ w. IsShown (T.is_flushed w) result.end) }
+    ensures streams { IfOk result (Streams (RunsLast R.remaining order.entry (task.entry.2.now, first.0))
+        (tar D.Drive W.Write M.Write (restore.old, out.old) (restore.new, out.new)) T.contents) }
+    ensures flushed { IfOk result (λ s. OnOk s.run (W.is_flushed out.new.answers)) }
+    ensures apart { IfOk result (λ s. OnOk s.run (IfSome out.new.manifest M.is_flushed)) }
+    ensures shown { IfOk result (λ s. IfSome s.writer (λ w. IsShown (T.is_flushed w) s.end)) }
 {
-    let run = run_session(threads, restore, order, input, out);
+    let run = run_left(threads, task, order, restore, first, out)?;
     let (writer, end) = end_stream(restore.sink.take(), extent_of(&run));
-    Streamed { run, end, writer }
+    Ok(Streamed { run, end, writer })
 }
 
 /// Returns a writer of answers to this output. It shows names as they are if a terminal shows them.
@@ -463,22 +464,27 @@ type HostInput<'a, 'j, 'r> = SessionInput<
     BufReader<Helped<'a, 'j, 'r, Prompted<'r, StdinLock<'r>>>>,
 >;
 
-/// Returns what a session by these marks runs on: the lines of standard input; or the plan for the paths
-/// that patterns mark, whose bootstrap goes to the writer of the answers.
+/// Returns what a session by the marks that were given runs on: the lines of standard input; or the
+/// plan for the paths that patterns mark, whose bootstrap goes to the writer of the answers. Returns
+/// also the flags of the groups that are lost.
 fn input_of<'a, 'j, 'r, A: TextOutput + Drop>(
     watch: (&'r HostRuntime, &Gauge<'_>),
     asked: &'a JobSelection<'j>,
-    marks: &Marks<'_>,
+    given: &ConsoleOptions<'_>,
     answers: &mut SessionAnswers<'_, '_, A>,
-) -> io::Result<HostInput<'a, 'j, 'r>>
-    ensures marks { IfOk result (IsInputOf asked.now marks.now) }
+) -> io::Result<(HostInput<'a, 'j, 'r>, Vec<bool>)>
+    ensures marks { IfOk result (λ input. IsInputOf asked.now given.now.marks input.0) }
 {
     let (rt, gauge) = watch;
-    match marks {
-        Marks::Lines => Ok(SessionInput::Lines(lines_of(rt, asked)?)),
+    match &given.marks {
+        Marks::Lines => Ok((
+            SessionInput::Lines(lines_of(rt, asked)?),
+            Vec::new(rt.alloc()),
+        )),
         Marks::Patterns(patterns) => {
-            let prepared = prepare_patterns(rt, gauge, asked, patterns, answers)?;
-            Ok(SessionInput::Prepared(prepared))
+            let volumes = given.volumes;
+            let (prepared, lost) = prepare_patterns(rt, gauge, asked, volumes, patterns, answers)?;
+            Ok((SessionInput::Prepared(prepared), lost))
         }
     }
 }
@@ -561,8 +567,9 @@ fn session_into<A: TextOutput + Drop>(
 {
     let (rt, gauge) = watch;
     let is_warned = tell_chosen(rt, order.0, given.volumes)?;
-    let input = input_of(watch, order.0, &given.marks, &mut out.answers)?;
-    let run = run_session(threads, restore, order, input, out);
+    let input = input_of(watch, order.0, given, &mut out.answers)?;
+    let task = (rt, gauge, &given.marks);
+    let run = run_left(threads, task, order, restore, input, out)?;
     gauge.clear();
     name_others(rt, gauge, given, &run)?;
     let failed = left_out(&restore.sink);
@@ -654,8 +661,9 @@ fn session_onto<T: Channel + Drop, A: TextOutput + Drop>(
 {
     let (rt, gauge) = watch;
     let is_warned = tell_chosen(rt, order.0, given.volumes)?;
-    let input = input_of(watch, order.0, &given.marks, &mut out.answers)?;
-    let stream = console_stream(threads, order, restore, input, out);
+    let input = input_of(watch, order.0, given, &mut out.answers)?;
+    let task = (rt, gauge, &given.marks);
+    let stream = console_stream(threads, task, order, restore, input, out)?;
     gauge.clear();
     let mut ending = console_ending(rt.alloc(), &stream.run, is_warned, &[])?;
     add_tar_end(&mut ending, stream.end)?;

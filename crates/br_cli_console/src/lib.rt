@@ -7,6 +7,7 @@
 
 mod alike_sessions;
 mod console_command;
+mod left_session;
 mod pattern_marks;
 mod session_manifest;
 

@@ -1,7 +1,7 @@
 //! The manifest of a session, which may go to a file of its own, and what the session runs on.
-ghost use Rattle.std.specs.Prelude.{◌≡◌, ◌⊎◌, None, IfOk, IfSome, OnOk};
+ghost use Rattle.std.specs.Prelude.{◌≡◌, ◌⊎◌, length, None, option_map, IfOk, IfSome, OnOk};
 ghost use Rattle.br_pool.specs.Pool.{AreDrives};
-ghost use Rattle.br_cli_console.specs.ConsoleTasks.{FinishesBy, RunsBy, RunsOn, session};
+ghost use Rattle.br_cli_console.specs.ConsoleTasks.{FinishesBy, KeepsEach, RunsBy, RunsOn, session};
 
 use br_cli_progress::{Gauge, WatchedWriter};
 use br_cli_target::{ToldOutcomes, end_manifest, open_manifest};
@@ -94,6 +94,7 @@ fn run_lines<R: BufRead + Drop, D: Drive + Send, W: Flush + Drop, M: Flush + Dro
     requires fresh { IfSome out.old.manifest M.is_flushed }
     ensures session { RunsBy order.entry (R.remaining reader.old)
         (session D.Drive W.Write M.Write S.Sink (restore.old, out.old) (restore.new, out.new)) result }
+    ensures many { length restore.new.drives.items ≡ length restore.old.drives.items }
     ensures flushed { OnOk result (W.is_flushed out.new.answers) }
     ensures apart { OnOk result (IfSome out.new.manifest M.is_flushed) }
 {
@@ -125,6 +126,7 @@ fn run_prepared<D: Drive + Send, W: Flush + Drop, M: Flush + Drop, S: Sink>(
     requires fresh { IfSome out.old.manifest M.is_flushed }
     ensures finishes { FinishesBy wanted
         (session D.Drive W.Write M.Write S.Sink (restore.old, out.old) (restore.new, out.new)) prepared result }
+    ensures many { length restore.new.drives.items ≡ length restore.old.drives.items }
     ensures flushed { OnOk result (W.is_flushed out.new.answers) }
     ensures apart { OnOk result (IfSome out.new.manifest M.is_flushed) }
 {
@@ -157,6 +159,7 @@ pub(crate) fn run_session<
     requires fresh { IfSome out.old.manifest M.is_flushed }
     ensures session { RunsOn R.remaining order.entry input
         (session D.Drive W.Write M.Write S.Sink (restore.old, out.old) (restore.new, out.new)) result }
+    ensures many { length restore.new.drives.items ≡ length restore.old.drives.items }
     ensures flushed { OnOk result (W.is_flushed out.new.answers) }
     ensures apart { OnOk result (IfSome out.new.manifest M.is_flushed) }
 {
@@ -164,6 +167,25 @@ pub(crate) fn run_session<
         SessionInput::Lines(mut reader) => run_lines(threads, restore, order, &mut reader, out),
         SessionInput::Prepared(prepared) => run_prepared(threads, restore, prepared, order.1, out),
     }
+}
+
+/// Flushes what a session writes to.
+///
+/// # Errors
+///
+/// If a writer failed.
+pub(crate) fn flush_outputs<W: Flush + Drop, M: Flush + Drop>(
+    out: &mut Outputs<W, M>,
+) -> io::Result<()>
+    ensures shown { OnOk result (W.is_flushed out.new.answers) }
+    ensures fresh { OnOk result (IfSome out.new.manifest M.is_flushed) }
+    ensures kept { OnOk result (KeepsEach (option_map M.contents out.old.manifest) (option_map M.contents out.new.manifest)) }
+{
+    out.answers.flush_all()?;
+    if let Some(manifest) = &mut out.manifest {
+        manifest.flush_all()?;
+    }
+    Ok(())
 }
 
 /// Returns what watched writers noted of a session.

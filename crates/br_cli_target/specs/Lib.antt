@@ -10,3 +10,4 @@ pub mod Origins
 pub mod Nothing
 pub mod WholeRestore
 pub mod TextPlaces
+pub mod LostVolumes

@@ -2,7 +2,8 @@
 //! a restore, the words at a terminal and in a log, where manifest and answers go, and the exit status.
 //! For outcomes that are no files, `origins` finds the volume and the paths in the attributes. A
 //! terminal is told what a restore does not report without its options: copies of paths that are
-//! older than others, indexes without an outcome, and why volumes can't be read.
+//! older than others, indexes without an outcome, and why volumes can't be read. `narrow` leaves out such volumes of a
+//! bootstrap.
 #![tactic(auto)]
 
 mod absent_count;
@@ -11,6 +12,7 @@ mod attribute_paths;
 mod ending;
 mod first_asking;
 mod host_restore;
+mod lost_volumes;
 mod narrowed_groups;
 mod origin;
 mod own_hits;
@@ -28,6 +30,7 @@ pub use absent_count::count_absent;
 pub use advice_lines::{push_absent, push_older, push_origin};
 pub use ending::Ending;
 pub use host_restore::{restore_over, with_watched_drives, with_watched_sink};
+pub use lost_volumes::{damage, narrow, tell_damage};
 pub use origin::{Origin, origins};
 pub use settling::{Channel, Settle};
 pub use target_folder::{LeavingSink, ResumingSink, folder_of, leaving_over, resuming_over};

@@ -1,4 +1,4 @@
-ghost use Rattle.std.specs.Prelude.{◌≡◌, ℕ, [], Err, Some, IfErr, IfOk, OnOk};
+ghost use Rattle.std.specs.Prelude.{◌≡◌, ℕ, [], length, Err, Some, IfErr, IfOk, OnOk};
 ghost use Rattle.br_model.specs.Answer.{Answers};
 ghost use Rattle.br_plan.specs.Fault.{cause};
 ghost use Rattle.br_pool.specs.Pool.{AreDrives, OnlyIfAllFail, StayInPlace};
@@ -222,6 +222,7 @@ pub fn finish<D: Drive + Send, W: Flush, S: Sink>(
     requires drives { AreDrives restore.old.drives.items }
     requires shown { W.is_flushed writer.old }
     ensures finishes { FinishesInto wanted (change D.Drive W.Write S.Sink (restore.old, writer.old) (restore.new, writer.new)) prepared result }
+    ensures many { length restore.new.drives.items ≡ length restore.old.drives.items }
     ensures flushed { OnOk result (W.is_flushed writer.new) }
 {
     let (lines, plan) = prepared?;

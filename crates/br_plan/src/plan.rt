@@ -145,6 +145,16 @@ impl Plan {
         &self.names
     }
 
+    /// Returns the plan to read what another bootstrap asks for, under the same paths.
+    pub fn with_bootstrap(self, bootstrap: Bootstrap) -> Plan
+        ensures { result ≡ record { groups = bootstrap; names = self.names } }
+    {
+        Plan {
+            bootstrap,
+            names: self.names,
+        }
+    }
+
     /// Returns the parts of volumes that are read, and the path under which each file is expected.
     pub fn into_parts(self) -> (Bootstrap, Names)
         ensures bootstrap { result.0 ≡ self.groups }

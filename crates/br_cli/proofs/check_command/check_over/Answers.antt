@@ -6,7 +6,7 @@ use Rattle.br_cli.proofs.check_command.check_over.Goals as goal
 -- ---- the text of the bootstrap is refused
 
 pub returns-in-Err-clause-checks : goal.returns-in-Err-clause-checks
-returns-in-Err-clause-checks g c = rw c.in-Err.is (refl, refl)
+returns-in-Err-clause-checks g c = simp c.in-Err.is (refl, refl)
 
 -- ---- it is checked
 
@@ -16,7 +16,7 @@ returns-clause-checks g c =
     let held = g.W.Write.contents c.args.writer.now in
     let now = g.W.Write.contents c.checked_for.new.writer in
     let holds = g.W.Write.contents c.show_end.new.writer in
-    rw c.in-Ok.is (
+    simp c.in-Ok.is (
       checked,
       c.in_ok-checked.ensures.checked,
       Appends-trans held now holds checked.findings.items (end_text checked) c.in_ok-checked.ensures.written c.in_ok-show_end.ensures.written,

@@ -1,0 +1,4 @@
+mod SpanLaws
+mod IndexLaws
+mod ValidLaws
+mod NarrowLaws

@@ -1,0 +1,4 @@
+pub mod GroupSessions
+pub mod LostFiles
+pub mod LeftIndexes
+pub mod NarrowedBootstrap
